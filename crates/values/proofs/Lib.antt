@@ -1,0 +1,4 @@
+pub mod Scan
+pub mod Orders
+pub mod Parents
+pub mod Spelling

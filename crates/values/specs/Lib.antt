@@ -1,0 +1,5 @@
+pub mod Held
+pub mod Rules
+pub mod Order
+pub mod Texts
+pub mod Faults
