@@ -6,6 +6,7 @@ use crate::table::Table;
 use host::Allowance;
 
 pub mod calls;
+pub mod changes;
 pub mod finds;
 
 #[derive(Drop)]

@@ -1,11 +1,6 @@
 // The calls of a host on a table.
-ghost use Rattle.values.specs.Texts.{path-text};
-ghost use Rattle.fs.specs.Rig.{make};
-ghost use Rattle.host.specs.Called.{Answered};
-ghost use Rattle.host.specs.Stores.{node-of};
 ghost use Rattle.table_host.specs.Tables.{rig-of};
 use super::TableHost;
-use crate::record::Record;
 use host::Allowance;
 use host::Host;
 use host::HostFault;
@@ -14,29 +9,6 @@ use host::Stored;
 use values::Content;
 use values::Path;
 use values::content::methods::ContentPartialEq;
-
-impl TableHost {
-    // Makes a node at a path that is nothing, below a directory.
-    fn add(&mut self, p: &Path, node: Stored) -> Result<(), HostFault>
-        ensures { λ r. ⌜ Answered (make (path-text (now (p .entry))) (node-of node) (rig-of (now (self .entry)))) (rig-of (now (self .entry))) r (rig-of (now (self .exit))) ⌝ }
-    {
-        if !self.parent_is_dir(p) {
-            return Err(HostFault::NoParent);
-        }
-        let Err(i) = self.find(p) else {
-            return Err(HostFault::Exists);
-        };
-        if self.table.used >= self.capacity as usize {
-            return Err(HostFault::Full);
-        }
-        if self.allowance == 0 {
-            return Err(HostFault::Exhausted);
-        }
-        self.table.insert(i, Record { path: *p, node });
-        self.allowance -= 1;
-        Ok(())
-    }
-}
 
 pub impl Host for TableHost as TableHostHost {
     ghost means = { rig-of };
@@ -79,17 +51,6 @@ pub impl Host for TableHost as TableHostHost {
     }
 
     fn rm(&mut self, p: &Path) -> Result<(), HostFault> {
-        let Ok(i) = self.find(p) else {
-            return Err(HostFault::Missing);
-        };
-        if self.blocked(p) {
-            return Err(HostFault::HasChildren);
-        }
-        if self.allowance == 0 {
-            return Err(HostFault::Exhausted);
-        }
-        self.table.remove(i);
-        self.allowance -= 1;
-        Ok(())
+        self.remove(p)
     }
 }

@@ -12,7 +12,7 @@ use Rattle.table_host.specs.Records.{tree-of, nodes}
 use Rattle.table_host.specs.Tables.{rig-of}
 use Rattle.table_host.proofs.Kept.{ordered-of, grounded-of, count-of}
 use Rattle.table_host.proofs.Places.{shrunk, with-tree}
-use Rattle.table_host.proofs.table_host.calls.TableHostHost.rm.Needs as need
+use Rattle.table_host.proofs.table_host.TableHost.remove.Needs as need
 
 pub remove-requires : need.remove-requires
 remove-requires c κs =
@@ -30,10 +30,10 @@ ghost-self c =
     (omega (arith, h .room, c .remove .ensures .room), (c .remove .ensures .within, (omega (arith, h .fits, c .remove .ensures .used), (h .low, (h .high, (omega (arith, h .few), (∣ subst Sorted (sym same) (sorted-put p nothing t (ordered-of h)) ∣₁, (∣ subst Rooted (sym same) (rooted-remove p t free (grounded-of h)) ∣₁, tt))))))))
 
 pub returns : need.returns
-returns c v =
+returns c =
     let h = c .args .self .now in
     let t = rig-of h .tree in
     let p = path-text (c .args .p .now) in
     let place = c .in-Ok .ensures tt in
     let free : removable (at t p) (children t p) ≡ true = clear (rig-of h) p (place .some) (sym (c .if-blocked .ensures tt)) in
-    (tt, remove-taken (rig-of h) p free (c .if-self-eq0 .left) ∙ ap taken (sym (with-tree (h .capacity) (h .allowance - 1) (shrunk (nodes (h .table)) (nodes (c .remove .last .self)) p (c .in-Ok .i) place (c .remove .ensures .nodes)))))
+    remove-taken (rig-of h) p free (c .if-self-eq0 .left) ∙ ap taken (sym (with-tree (h .capacity) (h .allowance - 1) (shrunk (nodes (h .table)) (nodes (c .remove .last .self)) p (c .in-Ok .i) place (c .remove .ensures .nodes))))
