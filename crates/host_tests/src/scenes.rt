@@ -11,7 +11,7 @@ use values::ValueFault;
 use values::fault::ValueFaultDebug;
 
 // 0 for a taken change, or the number of its refusal.
-fn number(r: Result<(), HostFault>) -> u8 {
+pub(crate) fn number(r: Result<(), HostFault>) -> u8 {
     match r {
         Ok(()) => 0,
         Err(fault) => fault.number(),
@@ -19,7 +19,7 @@ fn number(r: Result<(), HostFault>) -> u8 {
 }
 
 // A change by its name: mkdir, rm, and else creat with that content.
-fn change<B: Host>(host: &mut B, call: &str, text: &str) -> Result<u8, ValueFault> {
+pub(crate) fn change<B: Host>(host: &mut B, call: &str, text: &str) -> Result<u8, ValueFault> {
     let p = Path::parse(text.as_bytes())?;
     Ok(
         match call {
@@ -31,12 +31,12 @@ fn change<B: Host>(host: &mut B, call: &str, text: &str) -> Result<u8, ValueFaul
 }
 
 // The free nodes and the allowance.
-fn left<B: Host>(host: &B) -> (u16, u16) {
+pub(crate) fn left<B: Host>(host: &B) -> (u16, u16) {
     (host.free(), host.allowance())
 }
 
 // Every refusal of a change, each with what is left after it; the lower number comes first. Capacity 3, allowance 5.
-pub fn refusals<B: Host>(host: &mut B) -> Result<(), Fail> {
+pub(crate) fn refusals<B: Host>(host: &mut B) -> Result<(), Fail> {
     let cases = [
         ("mkdir", "/a/b", 35, (3, 5)),
         ("hi", "/a/b", 35, (3, 5)),
@@ -73,7 +73,7 @@ pub fn refusals<B: Host>(host: &mut B) -> Result<(), Fail> {
     looks(host, &stands)
 }
 
-fn looks<B: Host>(host: &B, stands: &[(&str, Kind)]) -> Result<(), Fail> {
+pub(crate) fn looks<B: Host>(host: &B, stands: &[(&str, Kind)]) -> Result<(), Fail> {
     for (text, kind) in stands {
         check_eq(host.look(&Path::parse(text.as_bytes())?), *kind).note(*text)?;
     }
@@ -81,7 +81,7 @@ fn looks<B: Host>(host: &B, stands: &[(&str, Kind)]) -> Result<(), Fail> {
 }
 
 // An allowance of 0 with a node free. Capacity 2, allowance 1.
-pub fn exhausted<B: Host>(host: &mut B) -> Result<(), Fail> {
+pub(crate) fn exhausted<B: Host>(host: &mut B) -> Result<(), Fail> {
     let cases = [
         ("mkdir", "/a", 0, (1, 0)),
         ("mkdir", "/b", 40, (1, 0)),
@@ -97,7 +97,7 @@ pub fn exhausted<B: Host>(host: &mut B) -> Result<(), Fail> {
 }
 
 // What the questions answer. Capacity 8, allowance 20.
-pub fn questions<B: Host>(host: &mut B) -> Result<(), Fail> {
+pub(crate) fn questions<B: Host>(host: &mut B) -> Result<(), Fail> {
     for text in ["/a", "/a/b", "/a/c", "/ab"] {
         check_eq(change(host, "mkdir", text)?, 0).note(text)?;
     }
@@ -135,7 +135,7 @@ fn numbered(i: u16) -> Result<Path, ValueFault> {
 }
 
 // A full host refuses, and a removal frees its record for the next creation. Capacity 256.
-pub fn reuse<B: Host>(host: &mut B) -> Result<(), Fail> {
+pub(crate) fn reuse<B: Host>(host: &mut B) -> Result<(), Fail> {
     for i in 0..256 {
         check_eq(number(host.mkdir(&numbered(i)?)), 0).note(i)?;
     }
@@ -156,7 +156,7 @@ pub fn reuse<B: Host>(host: &mut B) -> Result<(), Fail> {
 }
 
 // One node at a time, again and again. Capacity 1.
-pub fn one_node<B: Host>(host: &mut B) -> Result<(), Fail> {
+pub(crate) fn one_node<B: Host>(host: &mut B) -> Result<(), Fail> {
     check_eq(left(host), (1, 65535))?;
     for i in 0..20 {
         check_eq(number(host.mkdir(&numbered(i)?)), 0).note(i)?;
@@ -164,4 +164,61 @@ pub fn one_node<B: Host>(host: &mut B) -> Result<(), Fail> {
         check_eq(number(host.rm(&numbered(i)?)), 0).note(i)?;
     }
     check_eq(left(host), (1, 65495))
+}
+
+// A chain as deep as a path can be, made from the top and removed from the bottom. Capacity 24.
+pub(crate) fn deep<B: Host>(host: &mut B) -> Result<(), Fail> {
+    let text = "/a/b/c/d/e/f/g/h/i/j/k/l/m/n/o/p/q/r/s/t/u/v/w/x".as_bytes();
+    for i in 1..25 {
+        let end: usize = 2 * i;
+        check(end <= text.len())?;
+        let p = Path::parse(&text[0..end])?;
+        check_eq(number(host.mkdir(&p)), 0).note(i)?;
+        check_eq(host.look(&p), Kind::Directory).note(i)?;
+    }
+    check_eq(host.free(), 0)?;
+    for i in 1..25 {
+        let end: usize = 50 - 2 * i;
+        check(end <= text.len())?;
+        let p = Path::parse(&text[0..end])?;
+        check_eq(host.children(&p), 0).note(i)?;
+        check_eq(number(host.rm(&p)), 0).note(i)?;
+    }
+    check_eq(host.free(), 24)
+}
+
+// The next of a row of numbers without a pattern.
+fn scrambled(x: u32) -> u32 {
+    x.wrapping_mul(1_664_525).wrapping_add(1_013_904_223)
+}
+
+fn picked(x: u32) -> Result<Path, ValueFault> {
+    let texts = ["/a", "/a/b", "/a/b/c", "/a-b", "/b", "/b/c", "/b/d", "/c"];
+    Path::parse(texts[(x >> 16) as usize % 8].as_bytes())
+}
+
+// One change out of the three, by a number.
+fn any_change<B: Host>(host: &mut B, x: u32, p: &Path) -> Result<u8, ValueFault> {
+    Ok(
+        match (x >> 24) % 5 {
+            0 | 1 => number(host.mkdir(p)),
+            2 => number(host.creat(p, &Content::parse(b"x")?)),
+            _ => number(host.rm(p)),
+        },
+    )
+}
+
+// The same calls on two hosts with the same limits are answered alike, and leave the same.
+pub(crate) fn agree<B: Host, C: Host>(one: &mut B, other: &mut C) -> Result<(), Fail> {
+    let mut x = 1;
+    for k in 0..500 {
+        x = scrambled(x);
+        let p = picked(x)?;
+        check_eq(any_change(one, x, &p)?, any_change(other, x, &p)?).note(k)?;
+        let q = picked(scrambled(x))?;
+        check_eq(one.look(&q), other.look(&q)).note(k)?;
+        check_eq(one.children(&q), other.children(&q)).note(k)?;
+        check_eq(left(one), left(other)).note(k)?;
+    }
+    Ok(())
 }

@@ -1,90 +1,106 @@
-// Plays a rig's setup over a table host, from the script setup.txt in its folder: one call a line.
-// It prints what each call answers, a refusal by its number, and the tree at the end.
+// Plays a rig's setup from the script setup.txt in its folder, one call a line, on each make of host: directly, through a
+// journal that is committed, and through one that is discarded. It prints what each call answers, a refusal by its number,
+// and how the trees at the end compare.
 mod play;
 mod script;
+mod trees;
 
 use host::Host;
-use host::Kind;
-use host::kind::KindPartialEq;
-use play::Answer;
+use host::Limits;
+use host::OpenFault;
+use linked_host::LinkedHost;
+use linked_host::linked::calls::LinkedHostHost;
 use play::AnswerDisplay;
-use play::Shown;
-use play::ShownDisplay;
-use std::error::AnyError;
 use std::fs;
+use std::io;
 use table_host::TableHost;
 use table_host::table_host::calls::TableHostHost;
-use values::Path;
-use values::path::methods::PathEq;
-use values::path::methods::PathOrd;
-use values::path::methods::PathPartialEq;
-use values::path::methods::PathPartialOrd;
 
 const SCRIPT: &str = "setup.txt";
 
-fn main(rt: LibcRuntime) -> Result<(), AnyError> {
-    rt.report(run(&rt))
+// Three hosts of one make.
+#[derive(Drop)]
+struct Three<B> {
+    direct: B,
+    committed: B,
+    discarded: B,
 }
 
-fn run(rt: &LibcRuntime) -> Result<(), AnyError> {
-    let text = fs::read_to_string(rt, SCRIPT)?;
-    let mut lines = text.lines();
-    let Some(first) = lines.next() else {
-        return Err("the script is empty".into());
-    };
-    let Some(limits) = script::parse_limits(first) else {
-        return Err("the script does not begin with: open CAPACITY ALLOWANCE".into());
-    };
-    let mut host = match TableHost::open(rt.alloc(), limits) {
-        Ok(host) => host,
-        Err(fault) => {
-            println!(rt, "{first}: {}", play::opening(fault))?;
-            return Ok(());
-        }
-    };
-    println!(rt, "{first}: opened")?;
-    let mut named = Vec::new(rt.alloc());
-    for line in lines {
-        play_line(rt, &mut host, line, &mut named)?;
-    }
-    named.sort();
-    named.dedup();
-    show_tree(rt, &host, named.as_slice())
+fn tables(rt: &LibcRuntime, limits: Limits) -> Result<Three<TableHost>, OpenFault> {
+    Ok(Three {
+        direct: TableHost::open(rt.alloc(), limits)?,
+        committed: TableHost::open(rt.alloc(), limits)?,
+        discarded: TableHost::open(rt.alloc(), limits)?,
+    })
 }
 
-// Plays one line, and notes the path that it names.
-fn play_line<B: Host>(
+fn linked(rt: &LibcRuntime, limits: Limits) -> Result<Three<LinkedHost>, OpenFault> {
+    Ok(Three {
+        direct: LinkedHost::open(rt.alloc(), limits)?,
+        committed: LinkedHost::open(rt.alloc(), limits)?,
+        discarded: LinkedHost::open(rt.alloc(), limits)?,
+    })
+}
+
+// Plays the lines in each of the three ways; the host that was played directly comes back.
+fn ways<B: Host + Drop>(
     rt: &LibcRuntime,
-    host: &mut B,
-    line: &str,
-    named: &mut Vec<Path>,
-) -> Result<(), AnyError> {
-    match script::parse_call(line) {
-        Ok(call) => {
-            if let Some(p) = call.path() {
-                named.push(p)?;
-            }
-            println!(rt, "{line}: {}", play::call(host, call))?;
-        }
-        Err(fault) => println!(rt, "{line}: {}", play::unread(fault))?,
-    }
-    Ok(())
-}
-
-// The nodes, by what stands at each path that the script named: no other can stand on a host that was opened empty.
-fn show_tree<B: Host>(rt: &LibcRuntime, host: &B, paths: &[Path]) -> Result<(), AnyError> {
-    println!(rt, "tree:")?;
-    for p in paths {
-        let kind = host.look(p);
-        if kind != Kind::Nothing {
-            println!(rt, "  {} {}", Shown(*p), Answer::Stands(kind))?;
-        }
-    }
+    make: &str,
+    hosts: Three<B>,
+    calls: &str,
+) -> io::Result<B> {
+    let Three {
+        mut direct,
+        committed,
+        discarded,
+    } = hosts;
+    let opened = (discarded.free(), discarded.allowance());
+    println!(rt, "{make}, directly")?;
+    play::directly(rt, &mut direct, calls)?;
+    println!(rt, "{make}, through a journal that is committed")?;
+    let committed = play::rehearsed(rt, committed, calls, true)?;
+    println!(rt, "{make}, through a journal that is discarded")?;
+    let discarded = play::rehearsed(rt, discarded, calls, false)?;
+    let equal = trees::equal(&direct, &committed, calls);
+    let untouched = (discarded.free(), discarded.allowance()) == opened;
     println!(
         rt,
-        "{} nodes free, {} changes left",
-        host.free(),
-        host.allowance()
+        "{make}: committed tree equal {equal}, discarded host untouched {untouched}"
     )?;
-    Ok(())
+    Ok(direct)
+}
+
+fn play_both(
+    rt: &LibcRuntime,
+    tables: Three<TableHost>,
+    linked: Three<LinkedHost>,
+    calls: &str,
+) -> io::Result<()> {
+    let table = ways(rt, "table host", tables, calls)?;
+    let linked = ways(rt, "linked host", linked, calls)?;
+    let equal = trees::equal(&table, &linked, calls);
+    println!(rt, "trees of both makes equal {equal}")?;
+    trees::show(rt, &table, calls)
+}
+
+fn main(rt: LibcRuntime) -> io::Result<()> {
+    let text = fs::read_to_string(&rt, SCRIPT)?;
+    let Some((first, calls)) = text.split_once('\n') else {
+        return println!(rt, "the script has no line");
+    };
+    let Some(limits) = script::parse_limits(first) else {
+        return println!(
+            rt,
+            "the script does not begin with: open CAPACITY ALLOWANCE"
+        );
+    };
+    println!(rt, "{first}")?;
+    let tables = match tables(&rt, limits) {
+        Ok(hosts) => hosts,
+        Err(fault) => return println!(rt, "{}", play::opening(fault)),
+    };
+    match linked(&rt, limits) {
+        Ok(hosts) => play_both(&rt, tables, hosts, calls),
+        Err(fault) => println!(rt, "{}", play::opening(fault)),
+    }
 }

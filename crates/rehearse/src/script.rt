@@ -28,7 +28,7 @@ pub impl From<ValueFault> for ScriptFault as ScriptFaultFromValue {
 }
 
 // `open CAPACITY ALLOWANCE`
-pub fn parse_limits(line: &str) -> Option<Limits> {
+pub(crate) fn parse_limits(line: &str) -> Option<Limits> {
     let (word, numbers) = line.split_once(' ')?;
     let (capacity, allowance) = numbers.split_once(' ')?;
     if word != "open" {
@@ -41,7 +41,7 @@ pub fn parse_limits(line: &str) -> Option<Limits> {
 }
 
 // The content of a file is all that stands behind its path.
-pub fn parse_call(line: &str) -> Result<Call, ScriptFault> {
+pub(crate) fn parse_call(line: &str) -> Result<Call, ScriptFault> {
     let (word, rest) = line.split_once(' ').unwrap_or((line, ""));
     match word {
         "mkdir" => Ok(Call::Mkdir(Path::parse(rest.as_bytes())?)),
@@ -62,7 +62,7 @@ pub fn parse_call(line: &str) -> Result<Call, ScriptFault> {
 
 impl Call {
     // The path that it names.
-    pub fn path(self) -> Option<Path> {
+    pub(crate) fn path(self) -> Option<Path> {
         match self {
             Call::Mkdir(p) => Some(p),
             Call::Creat(p, _) => Some(p),

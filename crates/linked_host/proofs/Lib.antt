@@ -1,0 +1,9 @@
+mod Rows
+mod Written
+mod Scans
+mod Fresh
+mod Lookups
+mod Linking
+mod Relinking
+mod Splicing
+mod Changed
