@@ -34,3 +34,9 @@ returns-in-File c =
     let d = path-text up in
     ap (isDir (tree-of h)) (sym (c .in-Some .ensures tt))
     ∙ dir-at (tree-of h) d _ (path-some up) (stands-node (slots-of (h .arena)) (h .distinct) d (c .in-Some-find .i) (c .record .result) (c .record .ensures) (c .in-Some-find .ensures tt) ∙ ap node-of (c .in-File .is))
+
+pub returns-in-rest-find : need.returns-in-rest-find
+returns-in-rest-find c =
+    let h = c .args .self .now in
+    let up = c .in-Some .up in
+    ap (isDir (tree-of h)) (sym (c .in-Some .ensures tt)) ∙ dir-at (tree-of h) (path-text up) nothing (path-some up) (c .in-rest-find .ensures tt)
