@@ -1,6 +1,7 @@
-// Plays a rig's setup from the script setup.txt in its folder, one call a line, on each make of host: directly, through a
-// journal that is committed, and through one that is discarded. It prints what each call answers, a refusal by its number,
-// and how the trees at the end compare.
+// Reads the package index rig.idx of its folder and prints it, or its refusal. Then it plays a rig's setup from the script
+// setup.txt, one call a line, on each make of host: directly, through a journal that is committed, and through one that is
+// discarded. It prints what each call answers, a refusal by its number, and how the trees at the end compare.
+mod packages;
 mod play;
 mod script;
 mod trees;
@@ -84,7 +85,12 @@ fn play_both(
 }
 
 fn main(rt: LibcRuntime) -> io::Result<()> {
-    let text = fs::read_to_string(&rt, SCRIPT)?;
+    packages::show_index(&rt)?;
+    play_setup(&rt)
+}
+
+fn play_setup(rt: &LibcRuntime) -> io::Result<()> {
+    let text = fs::read_to_string(rt, SCRIPT)?;
     let Some((first, calls)) = text.split_once('\n') else {
         return println!(rt, "the script has no line");
     };
@@ -95,12 +101,12 @@ fn main(rt: LibcRuntime) -> io::Result<()> {
         );
     };
     println!(rt, "{first}")?;
-    let tables = match tables(&rt, limits) {
+    let tables = match tables(rt, limits) {
         Ok(hosts) => hosts,
         Err(fault) => return println!(rt, "{}", play::opening(fault)),
     };
-    match linked(&rt, limits) {
-        Ok(hosts) => play_both(&rt, tables, hosts, calls),
+    match linked(rt, limits) {
+        Ok(hosts) => play_both(rt, tables, hosts, calls),
         Err(fault) => println!(rt, "{}", play::opening(fault)),
     }
 }

@@ -16,13 +16,13 @@ use values::path::methods::PathOrd;
 use values::path::methods::PathPartialEq;
 use values::path::methods::PathPartialOrd;
 
-// The bytes of a path, all of them ASCII.
+// The bytes of a path or a name, all of them ASCII.
 #[derive(Clone, Copy)]
-struct Shown(Path);
+pub(crate) struct Shown<'a>(pub &'a [u8]);
 
-impl fmt::Display for Shown as ShownDisplay {
+pub impl fmt::Display for Shown<'_> as ShownDisplay {
     fn fmt<W: fmt::Write>(&self, f: &mut fmt::Formatter<W>) -> fmt::Result {
-        for b in self.0.as_bytes() {
+        for b in self.0 {
             f.write_char(*b as char)?;
         }
         Ok(())
@@ -49,7 +49,7 @@ pub(crate) fn show<B: Host>(rt: &LibcRuntime, host: &B, calls: &str) -> io::Resu
     for p in paths.iter() {
         let kind = host.look(p);
         if kind != Kind::Nothing {
-            println!(rt, "  {} {}", Shown(*p), Answer::Stands(kind))?;
+            println!(rt, "  {} {}", Shown(p.as_bytes()), Answer::Stands(kind))?;
         }
     }
     Ok(())

@@ -1,0 +1,10 @@
+pub mod Distinct
+pub mod Growth
+pub mod Laws
+pub mod Held
+pub mod Lookups
+pub mod Adds
+pub mod Turns
+pub mod Grounds
+pub mod Stops
+pub mod Samples

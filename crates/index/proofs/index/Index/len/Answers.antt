@@ -1,0 +1,10 @@
+use mathlib.Core.Path.{sym, _∙_}
+use Rattle.std.specs.Of.Vec.{vec-items}
+use Rattle.std.proofs.shelf.Lists.{length-map}
+use Rattle.index.specs.Packages.{pack-of}
+use Rattle.index.proofs.index.Index.len.Needs as need
+
+pub returns : need.returns
+returns c =
+    let v = c .args .self .now .packages in
+    c .len .ensures ∙ v .ok .0 ∙ sym (length-map (vec-items v) pack-of)

@@ -1,0 +1,10 @@
+pub mod Packs
+pub mod Listed
+pub mod Packages
+pub mod Indexes
+pub mod Errors
+pub mod Reading
+pub mod Answers
+pub mod Lookups
+pub mod Law
+pub mod Refusals

@@ -1,0 +1,6 @@
+pub mod Lines
+pub mod Steps
+pub mod Bounds
+pub mod Rows
+pub mod Cover
+pub mod Only

@@ -1,0 +1,5 @@
+pub mod Bytes
+pub mod Faults
+pub mod Lexing
+pub mod Rows
+pub mod Cover
