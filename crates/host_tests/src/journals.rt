@@ -1,9 +1,6 @@
 // Scenes of a journal over any host.
 use crate::scenes;
 use host::Host;
-use host::Kind;
-use host::kind::KindDebug;
-use host::kind::KindPartialEq;
 use journal::Journal;
 use journal::journal::calls::JournalHost;
 use std::test::*;
@@ -49,17 +46,17 @@ pub(crate) fn few_allowed<B: Host + Drop>(rt: &LibcRuntime, host: B) -> Result<(
 pub(crate) fn ends<B: Host + Drop>(rt: &LibcRuntime, host: B) -> Result<(), Fail> {
     let mut journal = opened(rt, host)?;
     check_eq(scenes::change(&mut journal, "mkdir", "/a")?, 0)?;
-    check_eq(scenes::change(&mut journal, "hi", "/a/f")?, 0)?;
-    scenes::looks(&journal, &[("/a", Kind::Directory), ("/a/f", Kind::File)])?;
+    check_eq(scenes::change(&mut journal, "creat", "/a/f")?, 0)?;
+    scenes::looks(&journal, "/a directory\n/a/f file")?;
     journal.discard();
-    scenes::looks(&journal, &[("/a", Kind::Nothing), ("/a/f", Kind::Nothing)])?;
+    scenes::looks(&journal, "/a nothing\n/a/f nothing")?;
     check_eq(scenes::left(&journal), (4, 20))?;
-    check_eq(scenes::change(&mut journal, "hi", "/a")?, 0)?;
+    check_eq(scenes::change(&mut journal, "touch", "/a")?, 0)?;
     check_eq(scenes::change(&mut journal, "rm", "/a")?, 0)?;
-    check_eq(scenes::change(&mut journal, "ho", "/a")?, 0)?;
+    check_eq(scenes::change(&mut journal, "creat", "/a")?, 0)?;
     journal.commit();
     let below = journal.into_below();
-    check(below.holds(&Path::parse(b"/a")?, &Content::parse(b"ho")?))?;
+    check(below.holds(&Path::parse(b"/a")?, &Content::parse(b"hi")?))?;
     check_eq(scenes::left(&below), (3, 17))
 }
 
@@ -67,13 +64,13 @@ pub(crate) fn ends<B: Host + Drop>(rt: &LibcRuntime, host: B) -> Result<(), Fail
 pub(crate) fn nested<B: Host + Drop>(rt: &LibcRuntime, host: B) -> Result<(), Fail> {
     let mut outer = opened(rt, opened(rt, host)?)?;
     check_eq(scenes::change(&mut outer, "mkdir", "/a")?, 0)?;
-    check_eq(scenes::change(&mut outer, "", "/a/f")?, 0)?;
+    check_eq(scenes::change(&mut outer, "touch", "/a/f")?, 0)?;
     outer.commit();
     let mut inner = outer.into_below();
     check_eq(inner.held(), 2)?;
-    scenes::looks(&inner, &[("/a", Kind::Directory), ("/a/f", Kind::File)])?;
+    scenes::looks(&inner, "/a directory\n/a/f file")?;
     inner.commit();
     let bottom = inner.into_below();
-    scenes::looks(&bottom, &[("/a", Kind::Directory), ("/a/f", Kind::File)])?;
+    scenes::looks(&bottom, "/a directory\n/a/f file")?;
     check_eq(scenes::left(&bottom), (2, 18))
 }

@@ -18,16 +18,43 @@ pub(crate) fn number(r: Result<(), HostFault>) -> u8 {
     }
 }
 
-// A change by its name: mkdir, rm, and else creat with that content.
+// A change by its name: mkdir, rm, touch for an empty file, and creat for a file with content.
 pub(crate) fn change<B: Host>(host: &mut B, call: &str, text: &str) -> Result<u8, ValueFault> {
     let p = Path::parse(text.as_bytes())?;
     Ok(
         match call {
             "mkdir" => number(host.mkdir(&p)),
             "rm" => number(host.rm(&p)),
-            content => number(host.creat(&p, &Content::parse(content.as_bytes())?)),
+            "touch" => number(host.creat(&p, &Content::parse(b"")?)),
+            _ => number(host.creat(&p, &Content::parse(b"hi")?)),
         },
     )
+}
+
+fn number_in(word: Option<&str>) -> Result<u16, Fail> {
+    let Some(digits) = word else {
+        return Err(Fail::new("a case is too short"));
+    };
+    Ok(digits.parse::<u16>()?)
+}
+
+// One case: a change, its path, the number that answers it, and the free nodes and the allowance after it.
+fn play_case<B: Host>(host: &mut B, case: &str) -> Result<(), Fail> {
+    let mut words = case.split_whitespace();
+    let call = words.next().unwrap_or("");
+    let text = words.next().unwrap_or("");
+    let answer = u16::from(change(host, call, text)?);
+    check_eq(answer, number_in(words.next())?)?;
+    check_eq(host.free(), number_in(words.next())?)?;
+    check_eq(host.allowance(), number_in(words.next())?)
+}
+
+// Cases are lines of text, so that a scene reads like a log of calls.
+fn play_cases<B: Host>(host: &mut B, cases: &str) -> Result<(), Fail> {
+    for case in cases.lines() {
+        play_case(host, case).note(case)?;
+    }
+    Ok(())
 }
 
 // The free nodes and the allowance.
@@ -35,95 +62,85 @@ pub(crate) fn left<B: Host>(host: &B) -> (u16, u16) {
     (host.free(), host.allowance())
 }
 
+const REFUSALS: &str = "mkdir /a/b 35 3 5
+creat /a/b 35 3 5
+rm /a 37 3 5
+mkdir /a 0 2 4
+mkdir /a 36 2 4
+creat /a 36 2 4
+creat /a/f 0 1 3
+mkdir /a/f/g 35 1 3
+rm /a 38 1 3
+mkdir /b 0 0 2
+mkdir /c 39 0 2
+creat /c/d 35 0 2
+creat /b 36 0 2
+rm /b 0 1 1
+touch /c 0 0 0
+rm /c 40 0 0
+rm /b 37 0 0
+rm /a 38 0 0
+mkdir /d 39 0 0
+mkdir /d/e 35 0 0";
+
 // Every refusal of a change, each with what is left after it; the lower number comes first. Capacity 3, allowance 5.
 pub(crate) fn refusals<B: Host>(host: &mut B) -> Result<(), Fail> {
-    let cases = [
-        ("mkdir", "/a/b", 35, (3, 5)),
-        ("hi", "/a/b", 35, (3, 5)),
-        ("rm", "/a", 37, (3, 5)),
-        ("mkdir", "/a", 0, (2, 4)),
-        ("mkdir", "/a", 36, (2, 4)),
-        ("hi", "/a", 36, (2, 4)),
-        ("hi", "/a/f", 0, (1, 3)),
-        ("mkdir", "/a/f/g", 35, (1, 3)),
-        ("rm", "/a", 38, (1, 3)),
-        ("mkdir", "/b", 0, (0, 2)),
-        ("mkdir", "/c", 39, (0, 2)),
-        ("hi", "/c/d", 35, (0, 2)),
-        ("hi", "/b", 36, (0, 2)),
-        ("rm", "/b", 0, (1, 1)),
-        ("", "/c", 0, (0, 0)),
-        ("rm", "/c", 40, (0, 0)),
-        ("rm", "/b", 37, (0, 0)),
-        ("rm", "/a", 38, (0, 0)),
-        ("mkdir", "/d", 39, (0, 0)),
-        ("mkdir", "/d/e", 35, (0, 0)),
-    ];
-    for (call, text, number, after) in cases {
-        check_eq(change(host, call, text)?, number).note(text)?;
-        check_eq(left(host), after).note(text)?;
-    }
-    let stands = [
-        ("/a", Kind::Directory),
-        ("/a/f", Kind::File),
-        ("/b", Kind::Nothing),
-        ("/c", Kind::File),
-        ("/d", Kind::Nothing),
-    ];
-    looks(host, &stands)
+    play_cases(host, REFUSALS)?;
+    looks(
+        host,
+        "/a directory\n/a/f file\n/b nothing\n/c file\n/d nothing",
+    )
 }
 
-pub(crate) fn looks<B: Host>(host: &B, stands: &[(&str, Kind)]) -> Result<(), Fail> {
-    for (text, kind) in stands {
-        check_eq(host.look(&Path::parse(text.as_bytes())?), *kind).note(*text)?;
+// What stands at each path, a line each.
+pub(crate) fn looks<B: Host>(host: &B, stands: &str) -> Result<(), Fail> {
+    for line in stands.lines() {
+        let (text, kind) = line.split_once(' ').unwrap_or((line, ""));
+        let seen = match host.look(&Path::parse(text.as_bytes())?) {
+            Kind::Nothing => "nothing",
+            Kind::Directory => "directory",
+            Kind::File => "file",
+        };
+        check(seen == kind).note(line)?;
     }
     Ok(())
 }
+
+const EXHAUSTED: &str = "mkdir /a 0 1 0
+mkdir /b 40 1 0
+touch /b 40 1 0
+mkdir /a 36 1 0
+rm /a 40 1 0";
 
 // An allowance of 0 with a node free. Capacity 2, allowance 1.
 pub(crate) fn exhausted<B: Host>(host: &mut B) -> Result<(), Fail> {
-    let cases = [
-        ("mkdir", "/a", 0, (1, 0)),
-        ("mkdir", "/b", 40, (1, 0)),
-        ("", "/b", 40, (1, 0)),
-        ("mkdir", "/a", 36, (1, 0)),
-        ("rm", "/a", 40, (1, 0)),
-    ];
-    for (call, text, number, after) in cases {
-        check_eq(change(host, call, text)?, number).note(text)?;
-        check_eq(left(host), after).note(text)?;
+    play_cases(host, EXHAUSTED)
+}
+
+// How many children each path has, a line each.
+fn counts<B: Host>(host: &B, children: &str) -> Result<(), Fail> {
+    for line in children.lines() {
+        let (text, n) = line.split_once(' ').unwrap_or((line, ""));
+        let p = Path::parse(text.as_bytes())?;
+        check_eq(host.children(&p), n.parse::<u16>()?).note(line)?;
     }
     Ok(())
+}
+
+fn holds<B: Host>(host: &B, text: &str, content: &str) -> Result<bool, ValueFault> {
+    let p = Path::parse(text.as_bytes())?;
+    Ok(host.holds(&p, &Content::parse(content.as_bytes())?))
 }
 
 // What the questions answer. Capacity 8, allowance 20.
 pub(crate) fn questions<B: Host>(host: &mut B) -> Result<(), Fail> {
-    for text in ["/a", "/a/b", "/a/c", "/ab"] {
-        check_eq(change(host, "mkdir", text)?, 0).note(text)?;
-    }
-    check_eq(change(host, "one", "/a/b/f")?, 0)?;
-    let counts = [
-        ("/a", 2),
-        ("/a/b", 1),
-        ("/ab", 0),
-        ("/none", 0),
-        ("/a/b/f", 0),
-    ];
-    for (text, n) in counts {
-        check_eq(host.children(&Path::parse(text.as_bytes())?), n).note(text)?;
-    }
-    let contents = [
-        ("/a/b/f", "one", true),
-        ("/a/b/f", "on", false),
-        ("/a/b/f", "", false),
-        ("/a", "", false),
-        ("/none", "", false),
-    ];
-    for (text, content, held) in contents {
-        let p = Path::parse(text.as_bytes())?;
-        let c = Content::parse(content.as_bytes())?;
-        check_eq(host.holds(&p, &c), held).note(content)?;
-    }
+    let made =
+        "mkdir /a 0 7 19\nmkdir /a/b 0 6 18\nmkdir /a/c 0 5 17\nmkdir /ab 0 4 16\ncreat /a/b/f 0 3 15";
+    play_cases(host, made)?;
+    counts(host, "/a 2\n/a/b 1\n/ab 0\n/none 0\n/a/b/f 0")?;
+    check(holds(host, "/a/b/f", "hi")? && !holds(host, "/a/b/f", "h")?)?;
+    check(!holds(host, "/a/b/f", "")? && !holds(host, "/a", "")?)?;
+    check(!holds(host, "/none", "")?)?;
     check_eq(left(host), (3, 15))
 }
 
