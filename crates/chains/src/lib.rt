@@ -1,4 +1,6 @@
 // Reads chains: references, and the arrows between them.
+#![tactic(auto)]
+
 pub mod chain;
 pub mod reference;
 

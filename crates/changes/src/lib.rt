@@ -1,4 +1,6 @@
 // Changes, and a log that holds them in the order in which they were taken.
+#![tactic(auto)]
+
 pub mod change;
 pub mod log;
 

@@ -1,4 +1,6 @@
 // Reads declarations: a kind, a title, and a block of attributes.
+#![tactic(auto)]
+
 pub mod block;
 pub mod declared;
 pub mod given;

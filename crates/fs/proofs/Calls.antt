@@ -1,11 +1,11 @@
 -- When a call is taken, and what it leaves. Assumes nothing.
-use Rattle.std.proofs.Common.{◌≡◌, ℕ, ◌+◌, ◌-◌, ◌<◌, ◌≤◌, Bool, true, false, cond, not, ◌&&◌, eqb, leb, ◌≢◌, List, [], ◌∷◌, ◌++◌, length, sym, refl, ap, ◌∙◌, subst, true≢false, arith}
+use Rattle.std.proofs.Common.{◌≡◌, ℕ, ◌-◌, ◌<◌, ◌≤◌, Bool, true, false, cond, not, ◌&&◌, eqb, leb, ◌≢◌, List, [], ◌∷◌, ◌++◌, length, sym, refl, ap, ◌∙◌, subst, true≢false, arith}
 use mathlib.Core.Bool.{false≢true}
 use mathlib.Core.Option.{none, some}
-use Rattle.std.proofs.lemmas.Bool.{and_parts, and_from, not-true, not-false, leb-false, lt-leb, le-leb, eq-eqb, eqb-false, ne_eqb}
+use Rattle.std.proofs.lemmas.Bool.{and_parts, and_from, not-false, leb-false, lt-leb, le-leb, eq-eqb, eqb-false, ne_eqb}
 use Rattle.fs.specs.Rig.{Rig, Answer, taken, refused, after, if_allowed, make, remove, remove_node, on_taken}
-use Rattle.fs.specs.Tree.{Path, Node, nothing, directory, file, Tree, parent, at, with_node, without, children, is_dir, is_nothing, is_directory, vacant, removable, blocked, Sorted, Rooted}
-use Rattle.fs.specs.Change.{Change, made_dir, made_file, removed, change, made, allows, allows_all, altered, leaves, makes, call, calls, after_all, grounds, first_ground, unless_refused, RefusedByFirstGround, Alters, AltersOnePath}
+use Rattle.fs.specs.Tree.{Path, Node, nothing, directory, file, Tree, parent, at, with_node, without, children, is_dir, is_nothing, vacant, removable, blocked, Sorted, Rooted}
+use Rattle.fs.specs.Change.{Change, made_dir, made_file, removed, change, made, allows, allows_all, altered, leaves, makes, call, calls, after_all, first_ground, unless_refused, RefusedByFirstGround, AltersOnePath}
 use Rattle.fs.proofs.Rooting.{rooted_make, rooted_remove}
 use Rattle.fs.proofs.Trees.{at_put_here, at_put_other, sorted_put}
 

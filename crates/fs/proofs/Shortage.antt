@@ -1,5 +1,5 @@
 -- A rig with room and allowance enough refuses nothing for want of them. Assumes nothing.
-use Rattle.std.proofs.Common.{◌≡◌, ℕ, ◌+◌, ◌<◌, ◌≤◌, max, Bool, true, false, cond, eqb, leb, List, [], ◌∷◌, ◌++◌, length, sym, refl, ap, ◌∙◌, subst, arith, length-append}
+use Rattle.std.proofs.Common.{◌≡◌, ℕ, ◌<◌, max, Bool, true, false, cond, eqb, leb, List, [], ◌∷◌, ◌++◌, length, sym, refl, ap, ◌∙◌, subst, arith, length-append}
 use mathlib.Core.Option.{none, some}
 use Rattle.std.proofs.lemmas.Bool.{leb-true, eqb-true}
 use Rattle.fs.specs.Tree.{Path, Node, nothing, directory, file, is_nothing, Tree, at, with_node, without, children, parent, is_dir, vacant, removable, Sorted}

@@ -1,11 +1,11 @@
 -- The trace of an evaluation is allowed, has the changes that are counted, and makes its tree; and a package that is changed made its marker. Assumes nothing.
-use Rattle.std.proofs.Common.{◌≡◌, ℕ, ◌+◌, Bool, true, false, cond, not, ◌||◌, List, [], ◌∷◌, ◌++◌, length, sym, refl, ap, ◌∙◌, subst, ap₂, true≢false, length-append}
+use Rattle.std.proofs.Common.{◌≡◌, ℕ, ◌+◌, Bool, true, false, cond, not, List, [], ◌∷◌, ◌++◌, length, sym, refl, ap, ◌∙◌, subst, ap₂, true≢false, length-append}
 use mathlib.Core.Option.{none, some}
 use Rattle.std.proofs.lemmas.Bool.{and_parts, and_from, or_parts}
-use Rattle.fs.specs.Tree.{Path, same, Node, nothing, directory, file, is_file, Tree, at, children, vacant, removable, Sorted}
+use Rattle.fs.specs.Tree.{Path, same, Node, nothing, directory, file, is_file, Tree, at, children, vacant, removable}
 use Rattle.fs.specs.Fs.{Expr, skip, mkdir, creat, rm, sequence, test, Outcome, passes, eval}
 use Rattle.fs.specs.Change.{Change, made_dir, made_file, removed, change, made, allows, allows_all}
-use Rattle.fs.specs.Manifest.{ensure_all, Entry, Package, steps, marker, expr, flagged, Manifest, resource, Result, evaluate}
+use Rattle.fs.specs.Manifest.{ensure_all, Package, steps, marker, expr, flagged, Manifest, resource, Result, evaluate}
 use Rattle.fs.specs.Trace.{and_trace, trace, trace_of, Traced, makes_file, ChangedByMarker}
 use Rattle.fs.proofs.Trees.{at_put}
 use Rattle.fs.proofs.Resources.{and_then_parts, expr_is}

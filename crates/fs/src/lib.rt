@@ -1,4 +1,6 @@
 // The model that all crates share, and its laws: each function's contract is a theorem of specs/.
+#![tactic(auto)]
+
 ghost use Rattle.fs.specs.Beginning.{Completes, FailsEarly, HasAnOrder};
 ghost use Rattle.fs.specs.Bill.{BillFits, WithinBill, WithinShare};
 ghost use Rattle.fs.specs.Change.{RefusedByFirstGround, AltersOnePath};

@@ -1,4 +1,6 @@
 // Hosts: what changes are made on, by what they mean.
+#![tactic(auto)]
+
 pub mod fault;
 pub mod host;
 pub mod kind;

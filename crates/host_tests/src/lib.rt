@@ -1,4 +1,6 @@
 // What every host has to answer, played on each make of host.
+#![tactic(auto)]
+
 #[cfg(test)]
 mod journals;
 #[cfg(test)]

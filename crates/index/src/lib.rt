@@ -1,4 +1,6 @@
 // Reads a package index: packages by name, each with the entries that it puts on a host.
+#![tactic(auto)]
+
 ghost use Rattle.index.specs.Law.{ReadExactly, HeldLegally, ProperlyHeld};
 ghost use Rattle.index.specs.Refusals.{RefusedByFirstGround, RefusedAtFirstFault};
 

@@ -1,4 +1,6 @@
 // Indexes at every bound and refusal.
+#![tactic(auto)]
+
 #[cfg(test)]
 mod tests {
     use index::{Entry, Index};

@@ -1,4 +1,6 @@
 // The tokens of a manifest text, read one by one, each with its place and line.
+#![tactic(auto)]
+
 ghost use Rattle.lexer.specs.Cover.{Covered, OnlyCover};
 
 pub mod fault;

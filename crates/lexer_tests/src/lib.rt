@@ -1,4 +1,6 @@
 // Every token, blank and refusal of a text, with places and lines.
+#![tactic(auto)]
+
 #[cfg(test)]
 mod tests {
     use lexer::{LexFault, Placed, Position, Token};

@@ -1,4 +1,6 @@
 // The records of a package index: how bytes are split into them, and what each says.
+#![tactic(auto)]
+
 ghost use Rattle.records.specs.Saying.{SaidExactly};
 ghost use Rattle.records.specs.Spelling.{SplitExactly};
 

@@ -1,6 +1,8 @@
 // Reads the package index rig.idx of its folder and prints it, or its refusal. Then it plays a rig's setup from the script
 // setup.txt, one call a line, on each make of host: directly, through a journal that is committed, and through one that is
 // discarded. It prints what each call answers, a refusal by its number, and how the trees at the end compare.
+#![tactic(auto)]
+
 mod packages;
 mod play;
 mod script;

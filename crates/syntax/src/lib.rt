@@ -1,4 +1,6 @@
 // The parts of a manifest's text: its refusals, the words of the language, and single tokens as the grammar wants them.
+#![tactic(auto)]
+
 pub mod arrow;
 pub mod attribute;
 pub mod error;

@@ -1,4 +1,6 @@
 // Paths, names and contents at every bound of their rules.
+#![tactic(auto)]
+
 #[cfg(test)]
 mod tests {
     use std::cmp::Ordering;

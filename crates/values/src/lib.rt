@@ -1,4 +1,6 @@
 // Paths, names and contents: bounded values that keep their rules, so that no call that takes one needs memory or a check.
+#![tactic(auto)]
+
 ghost use Rattle.values.specs.Rules.{PathsAreNames};
 
 mod bytes;

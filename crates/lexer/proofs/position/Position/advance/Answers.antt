@@ -13,7 +13,7 @@ returns c =
           let place = ap (λ (a : Position). a.place) w.self-is in
           let line = ap (λ (a : Position). a.line) w.self-is in
           let one : ◌≡◌ {A = ℕ} (cond (eqb (get_or c.args.text.now at.place 0) 10) 1 0) 1 = rw w.if-text-self-eq10.true in
-          record { stands = λ s. let f = line_fits _ at s in stands_more _ at _ s c.requires (omega arith) (omega (arith, w.saturating-add-self.ensures)); place = omega arith }
+          record { stands = λ s. let f = line_fits _ at s in stands_more _ at _ s c.requires (omega arith) (omega (arith, w.saturating_add-self.ensures)); place = omega arith }
       | else-text-self-eq10 w ↦
           let place = ap (λ (a : Position). a.place) w.self-is in
           let line = ap (λ (a : Position). a.line) w.self-is in

@@ -16,7 +16,7 @@ returns-then-not-is-plain c = record {
 
 pub loop-self-preserved : goal.loop-self-preserved
 loop-self-preserved c =
-    (λ s. c.advance-in-loop-self.ensures.stands (c.loop-self.invariant.0 s), omega (arith, c.advance-in-loop-self.ensures.place), quote_more _ _ _ c.loop-self-test.true c.advance-in-loop-self.ensures.place c.if-b-eq39.false (sym c.if-not-is-plain.ensures) ∙ c.loop-self.invariant.2)
+    (λ s. c.advance-in-loop-self.ensures.stands (c.loop-self.invariant.0 s), omega (arith, c.advance-in-loop-self.ensures.place), quote_more _ _ _ c.loop-self-test.true c.advance-in-loop-self.ensures.place c.if-b-eq39.false (sym c.if-not-is_plain.ensures) ∙ c.loop-self.invariant.2)
 
 pub returns : goal.returns
 returns c = record {
