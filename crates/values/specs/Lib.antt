@@ -1,5 +1,6 @@
 pub mod Held
 pub mod Rules
 pub mod Order
+pub mod Comparing
 pub mod Texts
 pub mod Faults

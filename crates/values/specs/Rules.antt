@@ -1,5 +1,5 @@
 -- Which bytes are a name, a path and a content. Assumes nothing.
-use Rattle.std.specs.Prelude.{◌≡◌, ℕ, ◌-◌, ◌≤◌, Bool, true, false, cond, not, ◌&&◌, ◌||◌, ◌↔◌, List, [], ◌∷◌, ◌++◌, length, drop, codes, ◌==◌, nat_le, slice_index}
+use Rattle.std.specs.Prelude.{◌≡◌, ℕ, ◌-◌, ◌≤◌, Bool, true, cond, not, ◌&&◌, ◌||◌, ◌↔◌, List, [], ◌∷◌, ◌++◌, length, drop, codes, ◌==◌, nat_le, slice_index}
 use Rattle.fs.specs.Tree.{same}
 
 abbrev pub all : {X : Type 0} → (X → Bool) → List X → Bool

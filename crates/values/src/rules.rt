@@ -1,5 +1,7 @@
 // The rules of names and paths, as tests of bytes.
 ghost use Rattle.std.specs.Prelude.{◌≡◌, ℕ, ◌<◌, ◌≤◌, length};
+ghost use Rattle.std.specs.Cmp.Lexicographic.{slice_cmp};
+ghost use Rattle.std.specs.Ordering.{nat_cmp};
 ghost use Rattle.fs.specs.Tree.{parent, same};
 ghost use Rattle.values.specs.Order.{Ordered};
 ghost use Rattle.values.specs.Rules.{all, name_byte, is_name, is_path, is_content};
@@ -37,7 +39,7 @@ fn all_name_bytes(c: &[u8]) -> bool
 pub(crate) fn is_name(c: &[u8]) -> bool
     ensures { result ≡ is_name c.now }
 {
-    if c.is_empty() || c.len() > NAME_MAX || c == b"." || c == b".." {
+    if c.is_empty() || c.len() > NAME_MAX || c == b".".as_slice() || c == b"..".as_slice() {
         return false;
     }
     all_name_bytes(c)
@@ -77,7 +79,8 @@ pub(crate) fn same(a: &[u8], b: &[u8]) -> bool
 
 // The byte order of two texts.
 pub(crate) fn order(a: &[u8], b: &[u8]) -> Ordering
-    ensures { Ordered a.now b.now result }
+    ensures value { result ≡ slice_cmp nat_cmp a.now b.now }
+    ensures ordered { Ordered a.now b.now result }
 {
     a.cmp(&b)
 }

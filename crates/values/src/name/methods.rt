@@ -3,9 +3,7 @@ ghost use Rattle.fs.specs.Tree.{same};
 ghost use Rattle.values.specs.Faults.{value_fault_number};
 ghost use Rattle.values.specs.Rules.{is_name};
 ghost use Rattle.values.specs.Texts.{name_text};
-ghost use Rattle.std.specs.Cmp.Rules.{comparing};
-ghost use Rattle.std.proofs.Common.{rules, arith};
-ghost use Rattle.std.specs.Cmp as Keys;
+ghost use Rattle.values.specs.Comparing.{texts_per, texts_equiv};
 
 use super::Name;
 use crate::bytes::Bytes;
@@ -36,7 +34,7 @@ impl Name {
 impl PartialEq for Name {
     ghost eq = { λ x y. same (name_text x) (name_text y) };
 
-    ghost laws = { Keys.partial_equiv_from_equiv (first_of (Prim.search (comparing, rules), Prim.grind (arith, Self.row.coded.inj))) };
+    ghost laws = { texts_per name_text };
 
     fn eq(&self, other: &Name) -> bool {
         rules::same(self.as_bytes(), other.as_bytes())
@@ -44,5 +42,5 @@ impl PartialEq for Name {
 }
 
 impl Eq for Name {
-    ghost laws = { first_of (Prim.search (comparing, rules), Prim.grind (arith, Self.row.coded.inj)) };
+    ghost laws = { texts_equiv name_text };
 }

@@ -1,12 +1,12 @@
-ghost use Rattle.std.specs.Prelude.{◌≡◌, true, false, [], IsSomeAnd, MatchOption, MatchResult};
+ghost use Rattle.std.specs.Prelude.{◌≡◌, true, false, [], Some, refl, IsSomeAnd, MatchOption, MatchResult};
+ghost use Rattle.std.specs.Cmp.Lexicographic.{slice_cmp};
+ghost use Rattle.std.specs.Ordering.{nat_cmp};
 ghost use Rattle.fs.specs.Tree.{parent, same};
 ghost use Rattle.values.specs.Faults.{value_fault_number};
 ghost use Rattle.values.specs.Order.{Ordered};
 ghost use Rattle.values.specs.Rules.{is_path};
 ghost use Rattle.values.specs.Texts.{path_text};
-ghost use Rattle.std.specs.Cmp.Rules.{comparing};
-ghost use Rattle.std.proofs.Common.{rules, arith};
-ghost use Rattle.std.specs.Cmp as Keys;
+ghost use Rattle.values.specs.Comparing.{texts_per, texts_equiv, texts_order, texts_total, texts_tie};
 
 use super::Path;
 use crate::bytes::Bytes;
@@ -59,7 +59,7 @@ impl Path {
 impl PartialEq for Path {
     ghost eq = { λ x y. same (path_text x) (path_text y) };
 
-    ghost laws = { Keys.partial_equiv_from_equiv (first_of (Prim.search (comparing, rules), Prim.grind (arith, Self.row.coded.inj))) };
+    ghost laws = { texts_per path_text };
 
     fn eq(&self, other: &Path) -> bool {
         rules::same(self.as_bytes(), other.as_bytes())
@@ -67,29 +67,35 @@ impl PartialEq for Path {
 }
 
 impl Eq for Path {
-    ghost laws = { first_of (Prim.search (comparing, rules), Prim.grind (arith, Self.row.coded.inj)) };
+    ghost laws = { texts_equiv path_text };
 }
 
 impl PartialOrd for Path {
-    ghost compares = { λ x y r. IsSomeAnd r (Ordered (path_text x) (path_text y)) };
+    ghost partial_cmp = { λ x y. Some (slice_cmp nat_cmp (path_text x) (path_text y)) };
 
-    ghost laws = { first_of (Prim.search (comparing, rules), Prim.grind (arith, Self.row.coded.inj)) };
+    ghost laws = { texts_order path_text };
 
-    fn partial_cmp(&self, other: &Path) -> Option<Ordering> {
+    fn partial_cmp(&self, other: &Path) -> Option<Ordering>
+        ensures value { result ≡ Some (slice_cmp nat_cmp (path_text self.now) (path_text other.now)) }
+        ensures ordered { IsSomeAnd result (Ordered (path_text self.now) (path_text other.now)) }
+    {
         Some(self.cmp(other))
     }
 }
 
 impl Ord for Path {
-    ghost orders = { λ x y. Ordered (path_text x) (path_text y) };
+    ghost cmp = { λ x y. slice_cmp nat_cmp (path_text x) (path_text y) };
 
-    ghost total = { first_of (Prim.search (comparing, rules), Prim.grind (arith, Self.row.coded.inj)) };
+    ghost total = { texts_total path_text };
 
-    ghost matches_partial_cmp = { first_of (Prim.search (comparing, rules), Prim.grind (arith, Self.row.coded.inj)) };
+    ghost matches_partial_cmp = { λ x y. refl };
 
-    ghost matches_eq = { first_of (Prim.search (comparing, rules), Prim.grind (arith, Self.row.coded.inj)) };
+    ghost matches_eq = { texts_tie path_text };
 
-    fn cmp(&self, other: &Path) -> Ordering {
+    fn cmp(&self, other: &Path) -> Ordering
+        ensures value { result ≡ slice_cmp nat_cmp (path_text self.now) (path_text other.now) }
+        ensures ordered { Ordered (path_text self.now) (path_text other.now) result }
+    {
         rules::order(self.as_bytes(), other.as_bytes())
     }
 }

@@ -1,4 +1,4 @@
-use Rattle.std.proofs.Common.{◌≡◌, ◌≤◌, length, drop}
+use Rattle.std.proofs.Common.{◌≡◌, drop}
 use Rattle.values.specs.Rules.{all, name_byte}
 use Rattle.values.proofs.rules.all_name_bytes.Given as goal
 

@@ -1,4 +1,4 @@
-use Rattle.std.proofs.Common.{◌≡◌, ◌-◌, ◌≤◌, length, take, drop}
+use Rattle.std.proofs.Common.{◌≡◌, ◌-◌, ◌≤◌, take, drop}
 use Rattle.values.specs.Rules.{all, is_name, parts_from, components}
 use Rattle.values.proofs.rules.is_path.Given as goal
 
