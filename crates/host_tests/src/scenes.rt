@@ -36,16 +36,16 @@ fn play_case<B: Host>(rt: &impl Abort, host: &mut B, case: &str) -> Result<(), F
     let call = words.next().unwrap_or("");
     let text = words.next().unwrap_or("");
     let answer = u16::from(change(host, call, text)?);
-    assert_eq!(rt; answer, number_in(words.next())?);
-    assert_eq!(rt; host.free(), number_in(words.next())?);
-    assert_eq!(rt; host.allowance(), number_in(words.next())?);
+    assert_eq!(rt; answer, number_in(words.next())?, "{}", case);
+    assert_eq!(rt; host.free(), number_in(words.next())?, "{}", case);
+    assert_eq!(rt; host.allowance(), number_in(words.next())?, "{}", case);
     Ok(())
 }
 
 // Cases are lines of text, so that a scene reads like a log of calls.
 fn play_cases<B: Host>(rt: &impl Abort, host: &mut B, cases: &str) -> Result<(), Fail> {
     for case in cases.lines() {
-        play_case(rt, host, case).note(case)?;
+        play_case(rt, host, case)?;
     }
     Ok(())
 }
@@ -80,13 +80,14 @@ mkdir /d/e 35 0 0";
 pub(crate) fn refusals<B: Host>(rt: &impl Abort, host: &mut B) -> Result<(), Fail> {
     play_cases(rt, host, REFUSALS)?;
     looks(
+        rt,
         host,
         "/a directory\n/a/f file\n/b nothing\n/c file\n/d nothing",
     )
 }
 
 // What stands at each path, a line each.
-pub(crate) fn looks<B: Host>(host: &B, stands: &str) -> Result<(), Fail> {
+pub(crate) fn looks<B: Host>(rt: &impl Abort, host: &B, stands: &str) -> Result<(), Fail> {
     for line in stands.lines() {
         let (text, kind) = line.split_once(' ').unwrap_or((line, ""));
         let seen = match host.look(&Path::parse(text.as_bytes())?) {
@@ -94,7 +95,7 @@ pub(crate) fn looks<B: Host>(host: &B, stands: &str) -> Result<(), Fail> {
             Kind::Directory => "directory",
             Kind::File => "file",
         };
-        assert!(seen == kind, "{}", line);
+        assert!(rt; seen == kind, "{}", line);
     }
     Ok(())
 }
