@@ -12,7 +12,7 @@ pub search-requires : goal.search-requires
 search-requires t c =
     let h = c.args.self.now in
     let es = entries h.arena in
-    same_link_is h.arena.first (child_from es [] 0) h.headed ∙ ap (λ d. child_from es d 0) (sym c.in-default.ensures)
+    same_link_is h.arena.first (child_from es [] 0) h.headed ∙ ap (λ d. child_from es d 0) (sym c.in_default.ensures)
 
 pub find-requires : goal.find-requires
 find-requires t c =

@@ -7,8 +7,8 @@ use Rattle.linked_host.proofs.Changed.{make_36}
 use Rattle.linked_host.specs.Lookups.{seen}
 use Rattle.linked_host.proofs.linked.LinkedHost.add.Goals as goal
 
-pub returns-then-is-some : goal.returns-then-is-some
-returns-then-is-some c =
+pub returns-then-is_some : goal.returns-then-is_some
+returns-then-is_some c =
     let h = c.args.self.now in
     let p = path_text c.args.p.now in
-    (make_36 (rig_of h) p (node_of c.args.node) c.in-Some.ensures.0 (seen (slots_of h.arena) p c.find.result c.find.ensures ∙ ap not (sym c.if-is-some.ensures)), refl)
+    (make_36 (rig_of h) p (node_of c.args.node) c.in-Some.ensures.0 (seen (slots_of h.arena) p c.find.result c.find.ensures ∙ ap not (sym c.if-is_some.ensures)), refl)

@@ -11,8 +11,8 @@ use Rattle.linked_host.proofs.linked.LinkedHost.child_count.Goals as goal
 pub loop-cursor-init : goal.loop-cursor-init
 loop-cursor-init c = counted_on (entries c.args.self.now.arena) (path_text c.args.p.now) 0 0 c.args.head c.requires (omega arith)
 
-pub overflow-add-n : goal.overflow-add-n
-overflow-add-n c =
+pub overflow_add-n : goal.overflow_add-n
+overflow_add-n c =
     let h = c.args.self.now in
     let es = entries h.arena in
     let p = path_text c.args.p.now in
@@ -52,4 +52,4 @@ returns c =
     let h = c.args.self.now in
     let es = entries h.arena in
     let p = path_text c.args.p.now in
-    subst (Counted es p c.loop-cursor.n) c.in-default.is c.loop-cursor.invariant ∙ sym (children_from p es (fit_views (slots_of h.arena)) h.distinct)
+    subst (Counted es p c.loop-cursor.n) c.in_default.is c.loop-cursor.invariant ∙ sym (children_from p es (fit_views (slots_of h.arena)) h.distinct)

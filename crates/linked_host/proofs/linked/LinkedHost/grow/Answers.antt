@@ -20,23 +20,23 @@ left c =
     let t = tree_of h in
     let p = path_text c.args.p.now in
     let i = c.args.i in
-    let at' = c.place-before-at.result in
-    let there = c.place-before-at.ensures.0 in
+    let at' = c.place_before-at.result in
+    let there = c.place_before-at.ensures.0 in
     let r : Record = record { path = c.args.p.now; node = c.args.node; first = None; next = link_at a.first rs at' } in
     let is = and_parts (is_dir t (parent p)) (is_nothing (at t p)) c.requires.vacant in
     let none = is_none (at t p) is.1 in
-    let before : Before (entries a) (parent p) i at' = subst (λ d. Before (entries a) d i at') c.requires.head.1.0 c.place-before-at.ensures.1 in
+    let before : Before (entries a) (parent p) i at' = subst (λ d. Before (entries a) d i at') c.requires.head.1.0 c.place_before-at.ensures.1 in
     let within : i < length rs = omega (arith, c.requires.within, a.slots.ok.0) in
     left_as h c.insert.new.self (with_node p (node_of c.args.node) t) (root_linked at' (Some i) a.first) (slots_linked at' (Some i) (set rs i (Some r)))
     c.insert.ensures.len c.insert.ensures.first c.insert.ensures.slots
     (add_kept a.first rs (kept_of h) i r at' there before within c.requires.free refl refl is.0 none)
     (add_tree a.first rs (kept_of h) i r at' there before within c.requires.free refl refl is.0 none)
 
-pub invariant-of-self : goal.invariant-of-self
-invariant-of-self c =
+pub invariant_of-self : goal.invariant_of-self
+invariant_of-self c =
     let h = c.args.self.now in
     let k = left c in
-    (omega (arith, h.low, k.len), (omega (arith, h.high, k.len), (h.few, (k.kept.distinct, (∣ k.kept.grounded ∣₁, (k.kept.headed, (k.kept.chained, tt)))))))
+    record { low = omega (arith, h.low, k.len); high = omega (arith, h.high, k.len); few = h.few; distinct = k.kept.distinct; grounded = ∣ k.kept.grounded ∣₁; headed = k.kept.headed; chained = k.kept.chained }
 
 pub returns : goal.returns
 returns c = let k = left (goal.at.returns c).After-insert in record { tree = k.tree; capacity = k.len; allowance = refl }

@@ -8,9 +8,9 @@ use Rattle.linked_host.specs.Lookups.{stands_node, dir_at}
 use Rattle.linked_host.specs.Scans.{path_some, stands_some, stands_text}
 use Rattle.linked_host.proofs.linked.LinkedHost.head.Goals as goal
 
-pub returns-in-default : goal.returns-in-default
-returns-in-default c =
-    let root = c.in-default.ensures in
+pub returns-in_default : goal.returns-in_default
+returns-in_default c =
+    let root = c.in_default.ensures in
     (ap (is_dir (tree_of c.args.self.now)) root, tt, (sym root, refl))
 
 pub record-requires : goal.record-requires
@@ -35,8 +35,8 @@ returns-in-File c =
     ap (is_dir (tree_of h)) (sym c.in-Some.ensures)
     ∙ dir_at (tree_of h) d _ (path_some up) (stands_node (slots_of h.arena) h.distinct d c.in-Some-find.i c.record.result c.record.ensures c.in-Some-find.ensures ∙ ap node_of c.in-File.is)
 
-pub returns-in-default-find : goal.returns-in-default-find
-returns-in-default-find c =
+pub returns-in_default-find : goal.returns-in_default-find
+returns-in_default-find c =
     let h = c.args.self.now in
     let up = c.in-Some.up in
-    ap (is_dir (tree_of h)) (sym c.in-Some.ensures) ∙ dir_at (tree_of h) (path_text up) nothing (path_some up) c.in-default-find.ensures
+    ap (is_dir (tree_of h)) (sym c.in-Some.ensures) ∙ dir_at (tree_of h) (path_text up) nothing (path_some up) c.in_default-find.ensures

@@ -4,13 +4,13 @@ use Rattle.linked_host.specs.Lookups.{free_more, live_one, live_end}
 use Rattle.linked_host.specs.Scans.{fit_views}
 use Rattle.linked_host.specs.Written.{length_from}
 use Rattle.linked_host.proofs.linked.LinkedHost.node_count.Goals as goal
-use Rattle.linked_host.proofs.linked.LinkedHost.node_count.Goals.{then-is-some, else-is-some}
+use Rattle.linked_host.proofs.linked.LinkedHost.node_count.Goals.{then-is_some, else-is_some}
 
 pub loop-i-init : goal.loop-i-init
 loop-i-init c = (omega arith, omega arith)
 
-pub overflow-add-n : goal.overflow-add-n
-overflow-add-n c =
+pub overflow_add-n : goal.overflow_add-n
+overflow_add-n c =
     let h = c.args.self.now in
     let few : c.loop-i.n + 1 ≤ 256 = omega (arith, c.loop-i.invariant.1, h.high) in
     omega arith
@@ -21,9 +21,9 @@ loop-i-preserved c =
     let rs = slots_of h.arena in
     let i = c.loop-i.i in
     let within : i < length rs = omega (arith, h.arena.slots.ok.0) in
-    elim c.if-is-some.branch [
-      | then-is-some w ↦ (let k = live_one rs i c.index.result.now within c.index.ensures (sym w.if-is-some.ensures) in (omega (arith, w.n-is), omega (arith, w.n-is)))
-      | else-is-some w ↦ (let k = free_more rs i c.index.result.now within c.index.ensures (sym w.if-is-some.ensures) in (omega (arith, w.n-is), omega (arith, w.n-is)))
+    elim c.if-is_some.branch [
+      | then-is_some w ↦ (let k = live_one rs i c.index.result.now within c.index.ensures (sym w.if-is_some.ensures) in (omega (arith, w.n-is), omega (arith, w.n-is)))
+      | else-is_some w ↦ (let k = free_more rs i c.index.result.now within c.index.ensures (sym w.if-is_some.ensures) in (omega (arith, w.n-is), omega (arith, w.n-is)))
     ]
 
 pub returns : goal.returns

@@ -21,20 +21,20 @@ has h p i r read s =
     blocked_by (entries h.arena) (fit_views rs) h.distinct (rooted_in (tree_of h) h.grounded) (path_text p) (path_some p) r.first
     ((leads rs h.chained i r read).0 ∙ ap (λ d. child_from (entries h.arena) d 0) (stands_path rs (path_text p) i r read s))
 
-pub returns-in-default : goal.returns-in-default
-returns-in-default c =
+pub returns-in_default : goal.returns-in_default
+returns-in_default c =
     let h = c.args.self.now in
     let p = path_text c.args.p.now in
-    remove_37 (rig_of h) p (fatherless (tree_of h) p (rooted_in (tree_of h) h.grounded) c.in-default.ensures)
+    remove_37 (rig_of h) p (fatherless (tree_of h) p (rooted_in (tree_of h) h.grounded) c.in_default.ensures)
 
 pub record-requires : goal.record-requires
 record-requires c = stands_some (slots_of c.args.self.now.arena) _ c.in-Some-find.i c.in-Some-find.ensures
 
-pub returns-then-is-some : goal.returns-then-is-some
-returns-then-is-some c =
+pub returns-then-is_some : goal.returns-then-is_some
+returns-then-is_some c =
     let h = c.args.self.now in
     let p = c.args.p.now in
-    remove_38 (rig_of h) (path_text p) (has h p c.in-Some-find.i c.record.result c.record.ensures c.in-Some-find.ensures ∙ sym c.if-is-some.ensures)
+    remove_38 (rig_of h) (path_text p) (has h p c.in-Some-find.i c.record.result c.record.ensures c.in-Some-find.ensures ∙ sym c.if-is_some.ensures)
 
 pub returns : goal.returns
 returns c =
@@ -43,5 +43,5 @@ returns c =
     let i = c.in-Some-find.i in
     let s = c.in-Some-find.ensures in
     let some = at_seen (entries h.arena) i (path_text p) (fit_views (slots_of h.arena)) s in
-    let free = clear (rig_of h) (path_text p) some (has h p i c.record.result c.record.ensures s ∙ sym c.if-is-some.ensures) in
+    let free = clear (rig_of h) (path_text p) some (has h p i c.record.result c.record.ensures s ∙ sym c.if-is_some.ensures) in
     record { held = c.in-Some.ensures.1; heads = c.in-Some.ensures.2; here = s; clear = free; allowed = remove_clear (rig_of h) (path_text p) free }

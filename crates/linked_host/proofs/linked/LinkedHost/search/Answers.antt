@@ -50,4 +50,4 @@ pub returns : goal.returns
 returns c =
     let es = entries c.args.self.now.arena in
     let p = path_text c.args.p.now in
-    at_none es p (subst (Passed es p) c.in-default.is c.loop-cursor.invariant)
+    at_none es p (subst (Passed es p) c.in_default.is c.loop-cursor.invariant)
