@@ -10,7 +10,7 @@ use Rattle.values.specs.Texts.{path_text, content_text}
 use Rattle.host.specs.Stores.{node_of}
 use Rattle.host.specs.declared.stored.Stored.{Stored}
 use Rattle.host.specs.declared.stored.Stored.TheVariants.{Directory, File}
-use Rattle.linked_host.specs.Slots.{Slots, tree_from, apart, child_from}
+use Rattle.linked_host.specs.Slots.{tree_from, apart, child_from}
 use Rattle.linked_host.specs.Links.{entry_of, view, views, same_link, linked}
 use Rattle.linked_host.specs.Places.{link_at, HeldIn, Before}
 use Rattle.linked_host.specs.Arenas.{slots_of, entries, slots_linked, root_linked}

@@ -13,8 +13,8 @@ use Rattle.linked_host.specs.Slots.{Entry, Slots, entry_at, path_of, Stands, tre
 use Rattle.linked_host.specs.Links.{entry_of, view, views}
 use Rattle.linked_host.specs.declared.record.Record.{Record}
 use Rattle.linked_host.specs.Rows.{is_none, at_live, at_seen, fit}
-use Rattle.linked_host.specs.Written.{live, weight, kids, children_from}
-use Rattle.linked_host.specs.Scans.{First, child, first_is, to_first, view_at, fit_views, stands_path, Ahead, ahead_is}
+use Rattle.linked_host.specs.Written.{live, weight, children_from}
+use Rattle.linked_host.specs.Scans.{First, child, to_first, view_at, fit_views, stands_path, Ahead, ahead_is}
 
 -- ---- a path and its parent
 

@@ -1,4 +1,4 @@
-use Rattle.std.proofs.Common.{◌≡◌, true, set, Some, None, sym, refl, ap, ◌∙◌, subst, arith}
+use Rattle.std.proofs.Common.{◌≡◌, true, set, None, sym, refl, ap, ◌∙◌, subst, arith}
 use Rattle.fs.specs.Tree.{at, children, parent, removable, without}
 use Rattle.values.specs.Texts.{path_text}
 use Rattle.linked_host.specs.Places.{next_of, Before}
