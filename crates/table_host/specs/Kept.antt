@@ -4,9 +4,9 @@ use Rattle.std.proofs.Common.{sym, subst, ◌∙◌}
 use Rattle.std.proofs.Math.Bool.{Bool-set}
 use Rattle.std.proofs.Math.Logic.{∥∥₁_elim}
 use Rattle.std.proofs.lemmas.List.{length-map, length-take-le, get_or-take}
-use Rattle.fs.specs.Tree.{Path, Tree, before, is_nothing, is_dir, at, parent, Behind, Sorted, Rooted}
+use Rattle.fs.specs.Tree.{Path, Tree, before, is_nothing, is_dir, parent, Behind, Sorted, Rooted}
 use Rattle.table_host.specs.Tables.{rig_of}
-use Rattle.table_host.specs.Records.{tree_of, entry_of, nodes}
+use Rattle.table_host.specs.Records.{entry_of, nodes}
 use Rattle.table_host.specs.declared.record.Record.{Record}
 use Rattle.table_host.specs.declared.table_host.TableHost.{TableHost}
 

@@ -1,4 +1,4 @@
-use Rattle.std.proofs.Common.{◌≡◌, ◌-◌, ◌<◌, true, length, sym, refl, ap, ◌∙◌, subst, arith}
+use Rattle.std.proofs.Common.{◌≡◌, ◌-◌, ◌<◌, length, sym, refl, ap, ◌∙◌, subst, arith}
 use Rattle.std.proofs.lemmas.Bool.{and_from}
 use Rattle.values.specs.Texts.{path_text}
 use Rattle.fs.specs.Rig.{taken}
@@ -15,28 +15,37 @@ use Rattle.table_host.proofs.table_host.TableHost.add.Goals as goal
 pub returns-then-self : goal.returns-then-self
 returns-then-self c =
     let h = c.args.self.now in
-    (make_39 (rig_of h) (path_text c.args.p.now) (node_of c.args.node) (sym c.if-not-parent-is-dir.ensures) (ap is_nothing c.in-Err.ensures.none) (omega (arith, count_of h)), refl)
+    (make_39 (rig_of h) (path_text c.args.p.now) (node_of c.args.node) (sym c.if-not-parent_is_dir.ensures) (ap is_nothing c.in-Err.ensures.none) (omega (arith, count_of h)), refl)
 
 pub returns-then-self-eq0 : goal.returns-then-self-eq0
 returns-then-self-eq0 c =
     let h = c.args.self.now in
-    (make_40 (rig_of h) (path_text c.args.p.now) (node_of c.args.node) (sym c.if-not-parent-is-dir.ensures) (ap is_nothing c.in-Err.ensures.none) (omega (arith, count_of h)) c.if-self-eq0.true, refl)
+    (make_40 (rig_of h) (path_text c.args.p.now) (node_of c.args.node) (sym c.if-not-parent_is_dir.ensures) (ap is_nothing c.in-Err.ensures.none) (omega (arith, count_of h)) c.if-self-eq0.true, refl)
 
 pub insert-requires : goal.insert-requires
 insert-requires c =
     let h = c.args.self.now in
     record { place = omega (arith, c.in-Err.ensures.within, count_of h); used = h.within; room = omega (arith, h.room) }
 
-pub invariant-of-self : goal.invariant-of-self
-invariant-of-self c =
+pub invariant_of-self : goal.invariant_of-self
+invariant_of-self c =
     let h = c.args.self.now in
     let t = (rig_of h).tree in
     let p = path_text c.args.p.now in
     let r : Record = record { path = c.args.p.now; node = c.args.node } in
     let place = c.in-Err.ensures in
     let same : tree_of (nodes c.insert.new.self) ≡ with_node p (node_of c.args.node) t = grown (nodes h.table) (nodes c.insert.new.self) r c.in-Err.i place c.insert.ensures.nodes in
-    let free = and_from (is_dir t (parent p)) (is_nothing (at t p)) (sym c.if-not-parent-is-dir.ensures) (ap is_nothing place.none) in
-    (omega (arith, h.room, c.insert.ensures.room), (c.insert.ensures.within, (omega (arith, c.insert.ensures.used), (h.low, (h.high, (omega (arith, h.few), (∣ subst Sorted (sym same) (sorted_stored p c.args.node t (ordered_of h)) ∣₁, (∣ subst Rooted (sym same) (rooted_stored p c.args.node t free (grounded_of h)) ∣₁, tt))))))))
+    let free = and_from (is_dir t (parent p)) (is_nothing (at t p)) (sym c.if-not-parent_is_dir.ensures) (ap is_nothing place.none) in
+    record {
+      room = omega (arith, h.room, c.insert.ensures.room);
+      within = c.insert.ensures.within;
+      fits = omega (arith, c.insert.ensures.used);
+      low = h.low;
+      high = h.high;
+      few = omega (arith, h.few);
+      ordered = ∣ subst Sorted (sym same) (sorted_stored p c.args.node t (ordered_of h)) ∣₁;
+      grounded = ∣ subst Rooted (sym same) (rooted_stored p c.args.node t free (grounded_of h)) ∣₁;
+    }
 
 pub returns : goal.returns
 returns c =
@@ -46,5 +55,5 @@ returns c =
     let r : Record = record { path = c.args.p.now; node = c.args.node } in
     let place = c.in-Err.ensures in
     let free : length t < h.capacity = omega (arith, count_of h) in
-    make_taken (rig_of h) p (node_of c.args.node) (sym c.if-not-parent-is-dir.ensures) (ap is_nothing place.none) free c.if-self-eq0.false
+    make_taken (rig_of h) p (node_of c.args.node) (sym c.if-not-parent_is_dir.ensures) (ap is_nothing place.none) free c.if-self-eq0.false
     ∙ ap taken (sym (with_tree h.capacity (h.allowance - 1) (grown (nodes h.table) (nodes c.insert.new.self) r c.in-Err.i place c.insert.ensures.nodes)))

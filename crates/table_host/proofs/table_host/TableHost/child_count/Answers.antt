@@ -1,12 +1,12 @@
-use Rattle.std.proofs.Common.{◌≡◌, ℕ, suc, ◌+◌, ◌<◌, ◌≤◌, true, false, cond, length, drop, sym, ap, ◌∙◌, arith}
+use Rattle.std.proofs.Common.{◌≡◌, suc, ◌+◌, cond, drop, sym, ap, ◌∙◌, arith}
 use Rattle.std.proofs.lemmas.List.{at_drop_all}
 use Rattle.values.specs.Texts.{path_text}
-use Rattle.fs.specs.Tree.{children, parent, same}
+use Rattle.fs.specs.Tree.{children}
 use Rattle.table_host.specs.Records.{tree_of, nodes}
 use Rattle.table_host.specs.Kept.{count_of}
 use Rattle.table_host.specs.PlacesLemmas.{count_step}
 use Rattle.table_host.proofs.table_host.TableHost.child_count.Goals as goal
-use Rattle.table_host.proofs.table_host.TableHost.child_count.Goals.{then-is-child-of, else-is-child-of}
+use Rattle.table_host.proofs.table_host.TableHost.child_count.Goals.{then-is_child_of, else-is_child_of}
 
 pub loop-i-preserved : goal.loop-i-preserved
 loop-i-preserved c =
@@ -16,10 +16,10 @@ loop-i-preserved c =
     let i = c.loop-i.i in
     let r = c.index.result.now in
     let rest = children (drop (i + 1) t) p in
-    let step : children (drop i t) p ≡ cond c.is-child-of.result (suc rest) rest = count_step h p i r c.loop-i-test.true c.index.ensures ∙ ap (λ b. cond b (suc rest) rest) (sym c.is-child-of.ensures) in
-    elim c.if-is-child-of.branch [
-      | then-is-child-of w ↦ (let one : children (drop i t) p ≡ suc rest = step ∙ ap (λ b. cond b (suc rest) rest) w.if-is-child-of.true in (omega (arith, w.n-is), omega (arith, w.n-is)))
-      | else-is-child-of w ↦ (let none : children (drop i t) p ≡ rest = step ∙ ap (λ b. cond b (suc rest) rest) w.if-is-child-of.false in (omega (arith, w.n-is), omega (arith, w.n-is)))
+    let step : children (drop i t) p ≡ cond c.is_child_of.result (suc rest) rest = count_step h p i r c.loop-i-test.true c.index.ensures ∙ ap (λ b. cond b (suc rest) rest) (sym c.is_child_of.ensures) in
+    elim c.if-is_child_of.branch [
+      | then-is_child_of w ↦ (let one : children (drop i t) p ≡ suc rest = step ∙ ap (λ b. cond b (suc rest) rest) w.if-is_child_of.true in (omega (arith, w.n-is), omega (arith, w.n-is)))
+      | else-is_child_of w ↦ (let none : children (drop i t) p ≡ rest = step ∙ ap (λ b. cond b (suc rest) rest) w.if-is_child_of.false in (omega (arith, w.n-is), omega (arith, w.n-is)))
     ]
 
 pub returns : goal.returns

@@ -16,15 +16,24 @@ remove-requires c =
     let h = c.args.self.now in
     record { place = omega (arith, c.in-Ok.ensures.within, count_of h); used = h.within }
 
-pub invariant-of-self : goal.invariant-of-self
-invariant-of-self c =
+pub invariant_of-self : goal.invariant_of-self
+invariant_of-self c =
     let h = c.args.self.now in
     let t = (rig_of h).tree in
     let p = path_text c.args.p.now in
     let place = c.in-Ok.ensures in
     let free : removable (at t p) (children t p) ≡ true = clear (rig_of h) p place.some (sym c.if-blocked.ensures) in
     let same : tree_of (nodes c.remove.new.self) ≡ without p t = shrunk (nodes h.table) (nodes c.remove.new.self) p c.in-Ok.i place c.remove.ensures.nodes in
-    (omega (arith, h.room, c.remove.ensures.room), (c.remove.ensures.within, (omega (arith, h.fits, c.remove.ensures.used), (h.low, (h.high, (omega (arith, h.few), (∣ subst Sorted (sym same) (sorted_put p nothing t (ordered_of h)) ∣₁, (∣ subst Rooted (sym same) (rooted_remove p t free (grounded_of h)) ∣₁, tt))))))))
+    record {
+      room = omega (arith, h.room, c.remove.ensures.room);
+      within = c.remove.ensures.within;
+      fits = omega (arith, h.fits, c.remove.ensures.used);
+      low = h.low;
+      high = h.high;
+      few = omega (arith, h.few);
+      ordered = ∣ subst Sorted (sym same) (sorted_put p nothing t (ordered_of h)) ∣₁;
+      grounded = ∣ subst Rooted (sym same) (rooted_remove p t free (grounded_of h)) ∣₁;
+    }
 
 pub returns : goal.returns
 returns c =

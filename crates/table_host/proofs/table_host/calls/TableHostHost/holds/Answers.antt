@@ -1,4 +1,4 @@
-use Rattle.std.proofs.Common.{◌≡◌, sym, ap, ◌∙◌, arith}
+use Rattle.std.proofs.Common.{sym, ap, ◌∙◌, arith}
 use Rattle.values.specs.Texts.{path_text, content_text}
 use Rattle.fs.specs.Tree.{is_file_of}
 use Rattle.host.specs.Stores.{node_of}
