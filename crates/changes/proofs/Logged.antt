@@ -1,8 +1,8 @@
 -- One change of a log, read at its place. Assumes nothing.
-use Rattle.std.proofs.Common.{◌≡◌, ℕ, ◌+◌, ◌<◌, Bool, true, false, cond, ◌≢◌, List, [], ◌∷◌, ◌++◌, map, length, get_or, take, vec_items, vec_len, sym, refl, ap, ◌∙◌, arith}
+use Rattle.std.proofs.Common.{◌≡◌, ℕ, ◌+◌, ◌<◌, Bool, cond, List, [], ◌∷◌, ◌++◌, map, length, get_or, take, vec_items, vec_len, sym, ap, ◌∙◌, arith}
 use Rattle.std.proofs.lemmas.List.{take_more, get_or-map, length-map}
 use Rattle.fs.specs.Change.{Change, made_dir, made_file, removed, change, made, altered, leaves}
-use Rattle.fs.specs.Tree.{Path, Node, nothing, directory, file, Tree, same, at}
+use Rattle.fs.specs.Tree.{Path, nothing, directory, file, Tree, same, at}
 use Rattle.fs.proofs.Traces.{made_append}
 use Rattle.fs.proofs.Trees.{at_put}
 use Rattle.changes.specs.Changes.{change_of}

@@ -1,12 +1,12 @@
 -- A change that is taken leaves a sound rig. Assumes nothing.
-use Rattle.std.proofs.Common.{◌≡◌, ℕ, ◌+◌, ◌<◌, ◌≤◌, Bool, true, false, cond, List, [], ◌∷◌, length, sym, refl, ap, ◌∙◌, subst, true≢false, arith}
+use Rattle.std.proofs.Common.{◌≡◌, ◌+◌, ◌<◌, ◌≤◌, Bool, true, false, cond, List, [], ◌∷◌, length, sym, refl, subst, true≢false, arith}
 use Rattle.std.specs.List.{AllByRecursion as All}
 use Rattle.std.proofs.lemmas.Bool.{and_parts, and_from}
 use Rattle.values.specs.Rules.{all, is_path, is_content}
 use Rattle.values.specs.Texts.{path_text, content_text}
 use Rattle.fs.specs.Change.{Change, made_dir, made_file, removed, change, altered, leaves, makes, call, calls}
 use Rattle.fs.specs.Rig.{Rig, taken}
-use Rattle.fs.specs.Tree.{Path, Node, nothing, directory, file, Tree, same, before, with_node, without, Sorted}
+use Rattle.fs.specs.Tree.{Path, Node, directory, file, Tree, same, before, with_node, without, Sorted}
 use Rattle.fs.proofs.Calls.{Fits, taken_eq, taken_fits, calls_parts, sorted_change, rooted_change}
 use Rattle.changes.specs.Changes.{change_of}
 use Rattle.changes.specs.Counts.{counted, births, deaths}

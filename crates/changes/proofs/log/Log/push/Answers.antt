@@ -6,13 +6,13 @@ use Rattle.changes.specs.Logs.{changes}
 use Rattle.changes.proofs.Logged.{changes_length}
 use Rattle.changes.proofs.log.Log.push.Goals as goal
 
-pub invariant-of-self : goal.invariant-of-self
-invariant-of-self c = let l = c.args.self.now in (omega (arith, l.room, c.push-reserved.ensures.capacity), (omega (arith, c.push-reserved.ensures.len), tt))
+pub invariant_of-self : goal.invariant_of-self
+invariant_of-self c = let l = c.args.self.now in record { room = omega (arith, l.room, c.push_reserved.ensures.capacity); few = omega (arith, c.push_reserved.ensures.len) }
 
-pub returns-then-len-ge-HELD-MAX : goal.returns-then-len-ge-HELD-MAX
-returns-then-len-ge-HELD-MAX c = let l = c.args.self.now in (sym (le-ltb (length (changes l)) 384 (omega (arith, changes_length l))), refl)
+pub returns-then-len-ge-HELD_MAX : goal.returns-then-len-ge-HELD_MAX
+returns-then-len-ge-HELD_MAX c = let l = c.args.self.now in (sym (le-ltb (length (changes l)) 384 (omega (arith, changes_length l))), refl)
 
 pub returns : goal.returns
 returns c =
     let l = c.args.self.now in
-    (sym (lt-ltb (length (changes l)) 384 (omega (arith, changes_length l))), ap (map change_of) c.push-reserved.ensures.items ∙ map_push change_of (vec_items l.held) c.args.c)
+    (sym (lt-ltb (length (changes l)) 384 (omega (arith, changes_length l))), ap (map change_of) c.push_reserved.ensures.items ∙ map_push change_of (vec_items l.held) c.args.c)
