@@ -1,6 +1,6 @@
 -- What a record says, by its parts. Assumes nothing.
-use Rattle.std.proofs.Common.{◌≡◌, ℕ, suc, ◌+◌, ◌-◌, ◌<◌, ◌≤◌, Bool, true, false, cond, ◌||◌, eqb, ltb, ◌⊎◌, List, [], ◌∷◌, ◌++◌, length, get_or, take, drop, Ok, Err, Decides, Result, sym, refl, ap, ◌∙◌, arith}
-use Rattle.std.specs.Cmp.Lexicographic.{Matches}
+use Rattle.std.proofs.Common.{◌≡◌, ℕ, suc, ◌+◌, ◌-◌, ◌<◌, ◌≤◌, Bool, true, false, cond, ◌||◌, eqb, ltb, ◌⊎◌, List, [], ◌∷◌, ◌++◌, length, get_or, take, drop, Ok, Err, nat_eq, Result, sym, refl, ap, ◌∙◌, arith}
+use Rattle.std.specs.Cmp.Lexicographic.{pointwise}
 use Rattle.std.proofs.lemmas.Slice.Eq.{starts_is}
 use Rattle.std.proofs.lemmas.List.{take_all, length-drop}
 use Rattle.std.proofs.lemmas.Bool.{cond-true, cond-false, le-ltb, lt-ltb, eqb-true, and_parts, and_from, eq-eqb, false≢true, true≢false}
@@ -30,7 +30,7 @@ starts_true (a ∷ q) (b ∷ p) h =
     (more.0, λ i. sym (eqb-true a b k.0) i ∷ more.1 i)
 
 -- what `starts_with` answers, as a test
-pub starts_bytes : (p q : List ℕ) (r : Bool) → Matches (λ (a b : ℕ) (t : Bool). Decides t (a ≡ b)) q (take (length q) p) r → r ≡ starts q p
+pub starts_bytes : (p q : List ℕ) (r : Bool) → r ≡ pointwise nat_eq q (take (length q) p) → r ≡ starts q p
 starts_bytes p q r m =
     let k = starts_is Decides-eqb p q r m in
     let Front : Type 0 = (rest : List ℕ) × (p ≡ q ++ rest) in

@@ -25,7 +25,7 @@ pub enum Item {
 fn is_reserved(path: &[u8]) -> bool
     ensures { result ≡ under_pkg path.now }
 {
-    path == b"/pkg" || path.starts_with(b"/pkg/")
+    path == b"/pkg".as_slice() || path.starts_with(b"/pkg/")
 }
 
 fn entry_path(text: &[u8]) -> Result<Path, Ground>

@@ -1,5 +1,5 @@
 use Rattle.std.proofs.Common.{codes, sym, ◌∙◌}
-use Rattle.values.proofs.Scan.{same_bytes}
+use Rattle.values.proofs.Scan.{same_text}
 use Rattle.fs.specs.Manifest.{pkg, marker}
 use Rattle.records.proofs.Items.{starts_bytes, not_pkg}
 use Rattle.records.proofs.item.is_reserved.Goals as goal
@@ -7,4 +7,4 @@ use Rattle.records.proofs.item.is_reserved.Goals as goal
 pub returns-else-eq : goal.returns-else-eq
 returns-else-eq c =
     let p = c.args.path.now in
-    starts_bytes p (codes "/pkg/") _ c.starts-with.ensures.value ∙ sym (not_pkg p (sym (same_bytes p (codes "/pkg") _ c.eq.ensures) ∙ c.if-eq.false))
+    starts_bytes p (codes "/pkg/") _ c.starts_with.ensures.value ∙ sym (not_pkg p (sym (same_text p (codes "/pkg") _ c.as_slice.ensures c.eq.ensures) ∙ c.if-eq.false))

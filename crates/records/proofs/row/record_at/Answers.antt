@@ -9,12 +9,12 @@ pub returns-then-left-lt-LEAD : goal.returns-then-left-lt-LEAD
 returns-then-left-lt-LEAD c = (row_left c.args.bytes.now c.args.place c.if-place-bytes.false (omega arith), refl)
 
 pub returns-then-left-size : goal.returns-then-left-size
-returns-then-left-size c = (row_past c.args.bytes.now c.args.place _ _ c.word-at-size.ensures c.word-at-kind.ensures (omega arith) c.if-left-size.true, refl)
+returns-then-left-size c = (row_past c.args.bytes.now c.args.place _ _ c.word_at-size.ensures c.word_at-kind.ensures (omega arith) c.if-left-size.true, refl)
 
 pub returns : goal.returns
 returns c = record {
   place = refl;
-  row = row_next c.args.bytes.now c.args.place _ _ c.word-at-size.ensures c.word-at-kind.ensures (omega arith) c.if-left-size.false;
+  row = row_next c.args.bytes.now c.args.place _ _ c.word_at-size.ensures c.word_at-kind.ensures (omega arith) c.if-left-size.false;
   forward = omega arith;
   within = omega arith;
 }
