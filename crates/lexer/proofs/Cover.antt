@@ -5,7 +5,7 @@ use Rattle.std.proofs.lemmas.Bool.{cond_both, eqb-true, eqb-false, true≢false,
 use Rattle.std.specs.List.{between}
 use Rattle.lexer.specs.Bytes.{blank, letter, plain, position}
 use Rattle.lexer.specs.Lexing.{Lexeme, word, gives, before, notifies, seen, end, Lexed, lexed, fault, skipped, word_end, Quote, closed, wrong, unclosed, quote_end, quote_token, arrow, token, token_at, next_token, mark}
-use Rattle.lexer.specs.Rows.{begun, row_from, row}
+use Rattle.lexer.specs.Rows.{begun, row_from}
 use Rattle.lexer.specs.Cover.{byte, All, Comment, Gap, One, Two, Spells, is_mark, is_arrow, begins_token, Breaks, none_begins, wrong_byte, no_closing, Covers, Covered}
 use Rattle.lexer.proofs.Bounds.{Taken, next_taken, skip_bounds, word_bounds, word_past}
 use Rattle.lexer.proofs.Rows.{row_is}

@@ -8,10 +8,10 @@ returns-then-b-eq39 c = record {
   answer = λ s. closed_answer _ _ s.right _ c.advance.ensures.place _ c.loop-self.invariant.2 _ c.advance-then-b-eq39.ensures.place (quote_closes _ _ c.loop-self-test.true c.if-b-eq39.true);
 }
 
-pub returns-then-not-is-plain : goal.returns-then-not-is-plain
-returns-then-not-is-plain c = record {
+pub returns-then-not-is_plain : goal.returns-then-not-is_plain
+returns-then-not-is_plain c = record {
   stands = λ s. c.loop-self.invariant.0 (c.advance.ensures.stands s);
-  answer = λ s. wrong_answer _ _ s.right _ c.advance.ensures.place _ c.loop-self.invariant.2 _ (c.loop-self.invariant.0 (c.advance.ensures.stands s)).right (quote_wrong _ _ c.loop-self-test.true c.if-b-eq39.false (sym c.if-not-is-plain.ensures));
+  answer = λ s. wrong_answer _ _ s.right _ c.advance.ensures.place _ c.loop-self.invariant.2 _ (c.loop-self.invariant.0 (c.advance.ensures.stands s)).right (quote_wrong _ _ c.loop-self-test.true c.if-b-eq39.false (sym c.if-not-is_plain.ensures));
 }
 
 pub loop-self-preserved : goal.loop-self-preserved

@@ -1,4 +1,4 @@
-use Rattle.std.proofs.Common.{◌≡◌, ◌+◌, ◌-◌, ◌≤◌, length, drop}
+use Rattle.std.proofs.Common.{◌≡◌, ◌-◌, ◌≤◌, length, drop}
 use Rattle.lexer.specs.Bytes.{Stands}
 use Rattle.lexer.specs.Lexing.{quote_end}
 use Rattle.lexer.proofs.position.Position.quoted.Given as goal

@@ -5,8 +5,8 @@ use Rattle.lexer.proofs.Steps.{skip_all, skip_stops, skip_line, skip_hash, skip_
 use Rattle.lexer.proofs.position.Position.skip_blanks.Goals as goal
 use Rattle.lexer.proofs.position.Position.skip_blanks.Goals.{in-10, in-35, in-32, in_default}
 
-pub returns-in-default-2 : goal.returns-in-default-2
-returns-in-default-2 c = record {
+pub returns-in_default-2 : goal.returns-in_default-2
+returns-in_default-2 c = record {
   stands = c.loop-self.invariant.0;
   place =
       sym (skip_stops _ _ c.loop-self-test.true _ c.if-comment.false (λ e. omega arith) (λ e. omega arith) (grind (arith, nat_tests)))

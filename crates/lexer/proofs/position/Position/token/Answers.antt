@@ -73,8 +73,8 @@ returns-in-a-to-z c = record {
   answer = λ s. word_answer _ _ s.right c.if-self-text.false _ _ (grind (arith, nat_tests)) c.word.ensures.place c.word.ensures.value;
 }
 
-pub returns-in-default : goal.returns-in-default
-returns-in-default c = record {
+pub returns-in_default : goal.returns-in_default
+returns-in_default c = record {
   stands = λ s. s;
   answer = λ s. none_answer _ _ s.right c.if-self-text.false (grind (arith, nat_tests)) (λ e. omega arith) (λ e. omega arith) (λ e. omega arith) (λ e. omega arith) (λ e. omega arith) (λ e. omega arith) (λ e. omega arith) (λ e. omega arith) (λ e. omega arith) (λ e. omega arith);
 }
