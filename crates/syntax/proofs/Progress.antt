@@ -1,11 +1,11 @@
 -- Readings leave a part of their row. Assumes nothing.
-use Rattle.std.proofs.Common.{◌≡◌, ℕ, Bool, cond, ltb, Some, None, Ok, Err, Option, Result, sym, subst}
+use Rattle.std.proofs.Common.{◌≡◌, ℕ, cond, ltb, Some, None, Ok, Err, Option, Result, sym, subst}
 use Rattle.std.proofs.lemmas.Bool.{cond_both}
 use Rattle.lexer.specs.Lexing.{Lexeme}
 use Rattle.lexer.specs.Rows.{Row, token, ended, broken}
 use Rattle.lexer.specs.declared.position.Position.{Position}
 use Rattle.syntax.specs.declared.fault.Ground.{Ground}
-use Rattle.syntax.specs.Reading.{Read, read, refused, after, or_refuse, checked, Located, taken}
+use Rattle.syntax.specs.Reading.{Read, read, refused, after, or_refuse, checked, taken}
 use Rattle.syntax.specs.Repeating.{size, Turn, turns, repeated}
 use Rattle.syntax.proofs.Turns.{Within, here, past, Below}
 

@@ -1,6 +1,6 @@
 -- A reading, one step on. Assumes nothing.
-use Rattle.std.proofs.Common.{◌≡◌, ℕ, IsErrAnd, Some, None, Ok, Err, Option, Result, sym, refl, ap, ◌∙◌, arith}
-use Rattle.std.specs.Option.{ok_or, option_map}
+use Rattle.std.proofs.Common.{◌≡◌, ℕ, IsErrAnd, Some, None, Ok, Err, Option, Result, refl, ap, ◌∙◌, arith}
+use Rattle.std.specs.Option.{ok_or}
 use Rattle.lexer.specs.Rows.{Row}
 use Rattle.lexer.specs.declared.position.Position.{Position}
 use Rattle.syntax.specs.declared.fault.Ground.{Ground}

@@ -22,7 +22,7 @@ ground_number TooMany = 20
 ground_number NoResource = 21
 ground_number NoNotice = 22
 
-abbrev pub fault_at : Position → Ground → TextFault
+abbrev pub fault_at : Position → (ground : Ground) → TextFault
 fault_at p g = record { ground = g; at = p }
 
 -- a fault of the tokens is one of the text, at its own position

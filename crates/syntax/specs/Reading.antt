@@ -1,7 +1,7 @@
 -- What is read off a row of tokens, and how one reading goes on with another. Assumes nothing.
 use Rattle.std.specs.Prelude.{◌≡◌, ℕ, List, Some, None, Ok, Err, Option, Result}
 use Rattle.lexer.specs.Bytes.{Stands}
-use Rattle.lexer.specs.Lexing.{Lexeme, Seen, seen, end}
+use Rattle.lexer.specs.Lexing.{Lexeme}
 use Rattle.lexer.specs.Rows.{Row, token, ended, broken, row_from}
 use Rattle.lexer.specs.declared.position.Position.{Position}
 use Rattle.syntax.specs.declared.fault.Ground.{Ground}

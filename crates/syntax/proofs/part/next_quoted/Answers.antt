@@ -7,26 +7,26 @@ use Rattle.syntax.proofs.Steps.{exits, lacks}
 use Rattle.syntax.proofs.Tokens.{takes, turns_down, breaks_off}
 use Rattle.syntax.proofs.part.next_quoted.Goals as goal
 
-pub returns-in-err-t : goal.returns-in-err-t
-returns-in-err-t c s =
-    let h = c.in-err-t.ensures in
-    record { stands = h.stands s; answers = exits part_of _ _ c.from-residual.ensures.1 ∙ breaks_off quoted_of _ _ (h.row s) }
+pub returns-in_err-t : goal.returns-in_err-t
+returns-in_err-t c s =
+    let h = c.in_err-t.ensures in
+    record { stands = h.stands s; answers = exits part_of _ _ c.from_residual.ensures.1 ∙ breaks_off quoted_of _ _ (h.row s) }
 
-pub returns-in-err-bytes : goal.returns-in-err-bytes
-returns-in-err-bytes c s =
-    let h = c.in-ok-t.ensures in
-    let t = c.in-ok-t.t in
-    let o = c.in-err-bytes.ensures in
+pub returns-in_err-bytes : goal.returns-in_err-bytes
+returns-in_err-bytes c s =
+    let h = c.in_ok-t.ensures in
+    let t = c.in_ok-t.t in
+    let o = c.in_err-bytes.ensures in
     record {
       stands = h.stands s;
       answers =
-          exits part_of _ _ c.from-residual-in-err-bytes.ensures.1 ∙ ap refused ((lacks _ o.value).1 ∙ c.unexpected.ensures)
-          ∙ turns_down quoted_of t.token t.at _ _ (h.row s) (sym (ap (option_map (λ (s : Bor (List ℕ)). s.now)) o.ok-part) ∙ c.quoted-in.ensures t.at);
+          exits part_of _ _ c.from_residual-in_err-bytes.ensures.1 ∙ ap refused ((lacks _ o.value).1 ∙ c.unexpected.ensures)
+          ∙ turns_down quoted_of t.token t.at _ _ (h.row s) (sym (ap (option_map (λ (s : Bor (List ℕ)). s.now)) o.ok_part) ∙ c.quoted_in.ensures t.at);
     }
 
 pub returns : goal.returns
 returns c s =
-    let h = c.in-ok-t.ensures in
-    let t = c.in-ok-t.t in
-    let o = c.in-ok-bytes.ensures in
-    record { stands = h.stands s; answers = takes quoted_of t.token t.at _ _ (h.row s) (sym (ap (option_map (λ (s : Bor (List ℕ)). s.now)) o.ok-part) ∙ c.quoted-in.ensures t.at) }
+    let h = c.in_ok-t.ensures in
+    let t = c.in_ok-t.t in
+    let o = c.in_ok-bytes.ensures in
+    record { stands = h.stands s; answers = takes quoted_of t.token t.at _ _ (h.row s) (sym (ap (option_map (λ (s : Bor (List ℕ)). s.now)) o.ok_part) ∙ c.quoted_in.ensures t.at) }
