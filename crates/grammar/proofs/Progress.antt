@@ -1,15 +1,15 @@
 -- Each turn of the grammar's repeated steps takes a token. Assumes nothing.
-use Rattle.std.proofs.Common.{◌≡◌, ℕ, Bool, true, false, cond, List, ap, arith}
+use Rattle.std.proofs.Common.{◌≡◌, ℕ, true, false, List, ap, arith}
 use Rattle.std.proofs.lemmas.Bool.{cond_both, false≢true}
 use Rattle.lexer.specs.Lexing.{Lexeme}
 use Rattle.lexer.specs.Rows.{Row, token, ended, broken}
 use Rattle.lexer.specs.declared.position.Position.{Position}
 use Rattle.syntax.specs.declared.kind.Kind.{Kind}
-use Rattle.syntax.specs.Reading.{Read, read, refused, after, or_refuse, Located}
+use Rattle.syntax.specs.Reading.{read, after}
 use Rattle.syntax.specs.Repeating.{Turn}
-use Rattle.syntax.proofs.Turns.{Within, here, past, Below}
+use Rattle.syntax.proofs.Turns.{here, past, Below}
 use Rattle.syntax.proofs.Progress.{Loose, Strict, strict_on, strict_loose, loose_after, strict_after, loose_or, loose_checked, taken_strict, taken_loose, left_below, repeated_loose}
-use Rattle.grammar.specs.Documents.{Ref, Link, Declared, Document}
+use Rattle.grammar.specs.Documents.{Ref, Link, Document}
 use Rattle.grammar.specs.Declarations.{Given, attribute, closer_of, is_true, last_comma, closing, member, none_given, attributes, heading, declaration}
 use Rattle.grammar.specs.Chains.{arrow_follows, bracketed, reference, link, Chained, chain_turn, chain}
 use Rattle.grammar.specs.Items.{Start, finish, declares, refers, start_by, start, item_of, item}

@@ -15,7 +15,7 @@ use Rattle.syntax.specs.Repeating.{repeated}
 use Rattle.syntax.specs.Tokens.{quoted_of, the_mark}
 use Rattle.grammar.specs.Documents.{Resource, kind_of, title_of, Declared}
 use Rattle.grammar.specs.Declarations.{title_ok, title_check, Given, none_given, wanted, member, attributes, heading, of_want, made_of, declaration}
-use Rattle.grammar.specs.Grammar.{Written, written, ensure_is, content_is, Attributes, file_first, content_first, is_directory, is_absent, is_present, is_running, Closes, Declares}
+use Rattle.grammar.specs.Grammar.{Written, ensure_is, content_is, Attributes, file_first, content_first, is_directory, is_absent, is_present, is_running, Closes, Declares}
 use Rattle.grammar.proofs.Inversions.{after_inv, or_inv, checked_inv, pick, no_some, no_ok, join, moved, single, repeated_inv}
 use Rattle.grammar.proofs.SoundMembers.{Closed, Attributed, ensured, filled, member_inv, member_below}
 use Rattle.grammar.proofs.Tokens.{quoted_taken, mark_taken}

@@ -10,7 +10,7 @@ use Rattle.syntax.specs.declared.kind.Kind.{Kind}
 use Rattle.syntax.specs.declared.mark.Mark.TheVariants.{OpenBracket, CloseBracket}
 use Rattle.syntax.specs.Faults.{no_token}
 use Rattle.syntax.specs.Kinds.{referred_kind}
-use Rattle.syntax.specs.Reading.{Read, read, refused, after, or_refuse, Located, taken}
+use Rattle.syntax.specs.Reading.{Read, read, refused, after, or_refuse, taken}
 use Rattle.syntax.specs.Repeating.{Turn, repeated}
 use Rattle.syntax.specs.Tokens.{word_of, quoted_of, the_mark}
 use Rattle.grammar.specs.Documents.{Ref, Link}

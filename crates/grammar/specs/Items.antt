@@ -2,7 +2,6 @@
 use Rattle.std.specs.Prelude.{ℕ, Bool, true, false, cond, List, [], is_some, Some, None, Ok, Err, Option, Result}
 use Rattle.std.specs.Option.{option_map}
 use Rattle.fs.specs.Tree.{has}
-use Rattle.lexer.specs.Lexing.{Lexeme}
 use Rattle.lexer.specs.Rows.{Row, token, ended, broken}
 use Rattle.lexer.specs.declared.position.Position.{Position}
 use Rattle.syntax.specs.declared.fault.Ground.{Ground}
@@ -13,7 +12,7 @@ use Rattle.syntax.specs.Kinds.{declared_kind, referred_kind}
 use Rattle.syntax.specs.Reading.{Read, read, refused, after, or_refuse, checked}
 use Rattle.syntax.specs.Repeating.{Turn, repeated}
 use Rattle.syntax.specs.Tokens.{word_of}
-use Rattle.grammar.specs.Documents.{Resource, put, directory, absent, a_package, a_service, kind_of, title_of, Declared, Link, Document, number_of}
+use Rattle.grammar.specs.Documents.{Resource, put, directory, absent, a_package, a_service, kind_of, title_of, Declared, Document, number_of}
 use Rattle.grammar.specs.Declarations.{declaration}
 use Rattle.grammar.specs.Chains.{room, chain}
 
