@@ -1,13 +1,6 @@
 // The calls of a host on linked records.
-ghost use Rattle.linked_host.specs.Linked.{rig_of, tree_of};
-ghost use Rattle.std.proofs.Common.{arith};
-ghost use Rattle.std.proofs.lemmas.List.{length-map};
-ghost use Rattle.linked_host.specs.Arenas.{slots_of, entries};
-ghost use Rattle.linked_host.specs.Links.{view};
-ghost use Rattle.linked_host.specs.Lookups.{live_few, rooted_in};
-ghost use Rattle.linked_host.specs.Rows.{sorted_from, ruled_from};
-ghost use Rattle.linked_host.specs.Scans.{fit_views};
-ghost use Rattle.linked_host.specs.Written.{length_from};
+ghost use Rattle.linked_host.specs.Linked.{rig_of};
+ghost use Rattle.linked_host.specs.Soundness.{sound_of};
 
 use super::LinkedHost;
 use host::{Allowance, Host, HostFault, Kind, Stored};
@@ -19,18 +12,7 @@ impl Host for LinkedHost {
     // Its rules are in its type.
     ghost valid = { λ _. Unit {0} };
 
-    ghost sound = { λ h v.
-        let rs = slots_of h.arena in
-        let es = entries h.arena in
-        record {
-          sorted = sorted_from es (fit_views rs);
-          rooted = rooted_in (tree_of h) h.grounded;
-          proper = ruled_from es (fit_views rs);
-          fits = omega (arith, length_from es (fit_views rs) h.distinct, live_few es, length-map rs view, h.arena.slots.ok.0);
-          low = h.low;
-          high = h.high;
-          few = h.few;
-        } };
+    ghost sound = { λ h _. sound_of h };
 
     fn look(&self, p: &Path) -> Kind {
         match self.node_at(p) {
