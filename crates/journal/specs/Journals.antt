@@ -1,5 +1,5 @@
 -- What a journal means: the rig below with the held changes made. Assumes nothing.
-use Rattle.std.specs.Prelude.{◌≡◌, ℕ, min, [], Option, MatchOption}
+use Rattle.std.specs.Prelude.{◌≡◌, min, [], Option, MatchOption}
 use Rattle.fs.specs.Change.{Change, change, calls, after_all}
 use Rattle.fs.specs.Rig.{Rig, Answer, taken, refused, after}
 use Rattle.fs.specs.Tree.{Path, Node, with_node, without}

@@ -1,10 +1,10 @@
 -- What holds of the rig that a journal means. Assumes nothing.
-use Rattle.std.specs.Prelude.{◌≡◌, ℕ, ◌+◌, ◌-◌, ◌≤◌, true, List, [], ◌∷◌, ◌++◌, map, length, Ok, Err, Result, refl}
+use Rattle.std.specs.Prelude.{◌≡◌, ◌+◌, ◌-◌, ◌≤◌, true, List, [], ◌∷◌, ◌++◌, map, length, Ok, Err, Result}
 use Rattle.std.proofs.Common.{sym, ap, ◌∙◌, arith}
 use Rattle.std.specs.List.{AllByRecursion as All}
 use Rattle.fs.specs.Change.{Change, made, allows_all, call, calls, after_all}
-use Rattle.fs.specs.Rig.{Rig, taken, refused, on_taken}
-use Rattle.fs.specs.Tree.{Path, Tree, same, parent, children}
+use Rattle.fs.specs.Rig.{Rig, taken, on_taken}
+use Rattle.fs.specs.Tree.{Path, same, parent, children}
 use Rattle.changes.specs.Changes.{change_of}
 use Rattle.changes.specs.Counts.{births, deaths}
 use Rattle.host.specs.Called.{Called}

@@ -18,7 +18,7 @@ returns g c =
     let rig = rig_of g.B.Host.means j in (
       refl,
       λ v.
-          let answer = c.in-default.ensures v in
+          let answer = c.in_default.ensures v in
           let some_left : rig.allowance ≢ 0 = (taken_fits x rig (changed_rig x rig) answer).0.left in
           let room : length l < 384 = omega arith in
           let held : changes c.push.new.self ≡ l ++ x ∷ [] = c.push.ensures.1 ∙ ap (λ b. cond b (l ++ x ∷ []) l) (c.push.ensures.0 ∙ lt-ltb (length l) 384 room) in

@@ -1,6 +1,5 @@
 use Rattle.std.proofs.Common.{◌≡◌, ◌+◌, ◌<◌, ◌≤◌, ◌∷◌, length, get_or, drop, sym, refl, ap, ◌∙◌, subst, arith}
 use Rattle.std.proofs.lemmas.List.{drop_more, drop_all}
-use Rattle.fs.specs.Rig.{Rig, taken}
 use Rattle.fs.specs.Change.{calls, after_all}
 use Rattle.changes.specs.Changes.{change_of}
 use Rattle.fs.proofs.Calls.{taken_eq, calls_parts, calls_still}
@@ -8,7 +7,7 @@ use Rattle.journal.specs.Journals.{capped, rig_of}
 use Rattle.changes.specs.Logs.{changes}
 use Rattle.journal.specs.Stand.{settled}
 use Rattle.journal.proofs.journal.Journal.commit.Goals as goal
-use Rattle.journal.proofs.journal.Journal.commit.Goals.{in-Some, in-default}
+use Rattle.journal.proofs.journal.Journal.commit.Goals.{in-Some, in_default}
 
 pub loop-i-init : goal.loop-i-init
 loop-i-init g c =
@@ -38,7 +37,7 @@ loop-i-preserved g c =
             let below_is : c.match-get.self.below ≡ w.make.new.b = ap (λ s. s.below) w.self-is in
             (subst g.B.Host.valid (sym below_is) done.0, ap (λ k. calls (drop (i + 1) l) (g.B.Host.means k)) below_is ∙ ap (calls (drop (i + 1) l)) here ∙ parts.2),
       )
-      | in-default w ↦ absurd (let past : length (changes c.loop-i.self.log) ≤ i = w.in-default.ensures in omega (arith, ap length same))
+      | in_default w ↦ absurd (let past : length (changes c.loop-i.self.log) ≤ i = w.in_default.ensures in omega (arith, ap length same))
     ]
 
 pub returns : goal.returns
@@ -49,5 +48,5 @@ returns g c =
       empty = c.discard.ensures.empty;
       made = λ v.
           let so_far = c.loop-i.invariant.1 v in
-          (subst g.B.Host.valid (sym kept) so_far.0, ap g.B.Host.means kept ∙ taken_eq (ap (λ k. calls k (g.B.Host.means c.loop-i.self.below)) (sym (drop_all c.loop-i.i l (omega arith))) ∙ so_far.1));
+          (subst g.B.Host.valid (sym kept) so_far.0, ap g.B.Host.means kept ∙ taken_eq {g = g.B.Host.means c.loop-i.self.below} {h = after_all l (g.B.Host.means c.args.self.now.below)} (ap (λ k. calls k (g.B.Host.means c.loop-i.self.below)) (sym (drop_all c.loop-i.i l (omega arith))) ∙ so_far.1));
     }
