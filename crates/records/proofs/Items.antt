@@ -1,21 +1,20 @@
 -- What a record says, by its parts. Assumes nothing.
-use Rattle.std.proofs.Common.{◌≡◌, ℕ, suc, ◌+◌, ◌-◌, ◌<◌, ◌≤◌, Bool, true, false, cond, ◌||◌, eqb, ltb, ◌⊎◌, List, [], ◌∷◌, ◌++◌, length, get_or, take, drop, Ok, Err, nat_eq, Result, sym, refl, ap, ◌∙◌, arith}
+use Rattle.std.proofs.Common.{◌≡◌, ℕ, suc, ◌+◌, ◌-◌, ◌<◌, ◌≤◌, Bool, true, false, cond, ◌||◌, eqb, ◌⊎◌, List, [], ◌∷◌, ◌++◌, length, get_or, take, drop, Ok, Err, nat_eq, Result, sym, refl, ap, ◌∙◌, arith}
 use Rattle.std.specs.Cmp.Lexicographic.{pointwise}
 use Rattle.std.proofs.lemmas.Slice.Eq.{starts_is}
 use Rattle.std.proofs.lemmas.List.{take_all, length-drop}
-use Rattle.std.proofs.lemmas.Bool.{cond-true, cond-false, le-ltb, lt-ltb, eqb-true, and_parts, and_from, eq-eqb, false≢true, true≢false}
+use Rattle.std.proofs.lemmas.Bool.{cond-true, cond-false, le-ltb, lt-ltb, eqb-true, and_parts, and_from, eq-eqb, false≢true}
 use Rattle.std.proofs.lemmas.Bool.Decides.{same_from_decides, nat_tests, Decides-eqb}
-use Rattle.values.specs.Rules.{is_content, is_path, is_name}
+use Rattle.values.specs.Rules.{is_content}
 use Rattle.values.specs.Faults.{value_fault_number}
 use Rattle.values.specs.declared.fault.ValueFault.{ValueFault}
 use Rattle.values.specs.declared.fault.ValueFault.TheVariants.{Malformed, TooLong}
-use Rattle.values.proofs.Scan.{same_bytes}
 use Rattle.fs.specs.Tree.{Path, same}
-use Rattle.fs.specs.Manifest.{Entry, dir_entry, file_entry, pkg, marker}
+use Rattle.fs.specs.Manifest.{Entry, file_entry, pkg, marker}
 use Rattle.fs.specs.Package.{starts, under_pkg}
 use Rattle.records.specs.declared.fault.Ground.{Ground}
-use Rattle.records.specs.declared.fault.Ground.TheVariants.{UnknownKind, NoPackage, ShortBody, Value, Reserved}
-use Rattle.records.specs.Items.{Tells, after, path_check, name_check, directory_body, file_parts, file_body, entry_body, Meaning, new_package, new_entry, meaning}
+use Rattle.records.specs.declared.fault.Ground.TheVariants.{UnknownKind, NoPackage, ShortBody, Value}
+use Rattle.records.specs.Items.{Tells, after, path_check, name_check, file_parts, file_body, entry_body, Meaning, new_package, new_entry, meaning}
 
 starts_append : (q rest : List ℕ) → starts q (q ++ rest) ≡ true
 starts_append [] rest = refl

@@ -1,8 +1,8 @@
 -- A row of records, one record on. Assumes nothing.
-use Rattle.std.proofs.Common.{◌≡◌, ℕ, zero, suc, ◌+◌, ◌-◌, ◌<◌, ◌≤◌, cond, ltb, List, [], ◌∷◌, length, get_or, take, drop, sym, refl, ap, ◌∙◌, add-zero, arith}
+use Rattle.std.proofs.Common.{◌≡◌, ℕ, zero, suc, ◌+◌, ◌-◌, ◌<◌, ◌≤◌, List, [], ◌∷◌, length, get_or, take, drop, sym, refl, ap, ◌∙◌, add-zero, arith}
 use Rattle.std.proofs.lemmas.List.{length-drop, drop_more, drop-drop, at_drop_all}
 use Rattle.std.proofs.lemmas.Bool.{cond-true, cond-false, lt-ltb, le-ltb}
-use Rattle.records.specs.Rows.{Row, ended, broken, next, word, row, row_from}
+use Rattle.records.specs.Rows.{ended, broken, next, word, row, row_from}
 
 -- the bytes of a record that is done are passed over
 pub row_skip : (n p : ℕ) (bs : List ℕ) → row n p bs ≡ row 0 (p + n) (drop n bs)

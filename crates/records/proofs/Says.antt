@@ -1,15 +1,14 @@
 -- A record says just what it is written for. Assumes nothing.
-use Rattle.std.proofs.Common.{◌≡◌, ℕ, ◌+◌, ◌<◌, ◌≤◌, Bool, true, false, cond, ◌||◌, eqb, ltb, List, [], ◌∷◌, ◌++◌, length, take, drop, Ok, Err, Result, sym, refl, ap, ◌∙◌, subst, arith}
+use Rattle.std.proofs.Common.{◌≡◌, ℕ, Bool, true, false, cond, ◌||◌, eqb, ltb, List, [], ◌∷◌, ◌++◌, length, take, drop, Ok, Err, Result, sym, refl, ap, ◌∙◌, subst, arith}
 use Rattle.std.proofs.lemmas.List.{length-append, length-take-le, take-append-drop, take_at, drop_at}
 use Rattle.std.proofs.lemmas.Bool.{cond-true, cond-false, ltb-false, le-ltb, eqb-true}
 use Rattle.values.specs.Rules.{is_name, is_path, is_content}
 use Rattle.values.specs.declared.fault.ValueFault.TheVariants.{Malformed, TooLong}
-use Rattle.fs.specs.Tree.{Path}
 use Rattle.fs.specs.Manifest.{Entry, dir_entry, file_entry}
 use Rattle.fs.specs.Package.{under_pkg}
 use Rattle.records.specs.declared.fault.Ground.{Ground}
 use Rattle.records.specs.declared.fault.Ground.TheVariants.{UnknownKind, NoPackage, ShortBody, Value, Reserved}
-use Rattle.records.specs.Items.{after, path_check, name_check, directory_body, file_parts, file_body, entry_body, Meaning, new_package, new_entry, meaning}
+use Rattle.records.specs.Items.{after, path_check, name_check, directory_body, file_parts, file_body, Meaning, new_package, new_entry, meaning}
 use Rattle.records.specs.Saying.{entry_record, record_of, Ruled, Allowed, SaidExactly}
 
 pub not_both : {X E : Type 0} (e : E) (x : X) → ◌≡◌ {A = Result X E} (Err e) (Ok x) → ⊥

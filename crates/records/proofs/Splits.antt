@@ -1,10 +1,10 @@
 -- Bytes are split into just the records that they are. Assumes nothing.
-use Rattle.std.proofs.Common.{◌≡◌, ℕ, zero, suc, ◌+◌, ◌<◌, ◌≤◌, Bool, true, false, cond, ◌⊎◌, List, [], ◌∷◌, ◌++◌, length, take, drop, sym, refl, ap, ◌∙◌, subst, ⊎_elim, arith}
+use Rattle.std.proofs.Common.{◌≡◌, ℕ, ◌+◌, ◌≤◌, Bool, true, false, List, [], ◌∷◌, ◌++◌, length, take, drop, sym, refl, ap, ◌∙◌, subst, ⊎_elim, arith}
 use Rattle.std.proofs.lemmas.List.{length-append, length-take-le, take-append-drop, take_at, drop_at}
 use Rattle.std.proofs.lemmas.Bool.{cases_lt, false≢true}
 use Rattle.records.specs.Rows.{Row, ended, broken, next, word, row}
 use Rattle.records.specs.Spelling.{Begins, Cut, Spells, row_of, SplitExactly}
-use Rattle.records.proofs.Rows.{row_short, row_over, row_more}
+use Rattle.records.proofs.Rows.{row_over, row_more}
 
 -- a row that comes to the end
 abbrev pub whole : Row → Bool

@@ -1,5 +1,4 @@
 -- An entry, as the model has it. Assumes nothing.
-use Rattle.std.specs.Prelude.{List, map}
 use Rattle.values.specs.Texts.{path_text, content_text}
 use Rattle.fs.specs.Tree.{Path}
 use Rattle.fs.specs.Manifest as model

@@ -17,8 +17,8 @@ ground_number (Value TooLong) = 8
 ground_number TooMany = 9
 ground_number Repeated = 10
 
-abbrev pub fault_at : ℕ → Ground → IndexFault
-fault_at p g = record { place = p; «ground» = g }
+abbrev pub fault_at : (place : ℕ) (ground : Ground) → IndexFault
+fault_at p g = record { place = p; ground = g }
 
 -- an answer whose refusal has the place p
 abbrev pub located : {X : Type 0} → ℕ → Result X Ground → Result X IndexFault

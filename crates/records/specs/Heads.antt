@@ -4,7 +4,7 @@ use Rattle.records.specs.declared.fault.Ground.TheVariants.{PastEnd}
 use Rattle.records.specs.declared.fault.IndexFault.{IndexFault}
 use Rattle.records.specs.declared.row.Record.{Record}
 use Rattle.records.specs.Faults.{fault_at}
-use Rattle.records.specs.Rows.{Row, ended, broken, next, row_from}
+use Rattle.records.specs.Rows.{ended, broken, next, row_from}
 
 -- the row at p begins with this record, which lies within the bytes, and goes on past it
 pub record Head (bytes : List ℕ) (p : ℕ) (r : Record) : Type 0 where

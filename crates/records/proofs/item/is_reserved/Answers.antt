@@ -1,6 +1,5 @@
 use Rattle.std.proofs.Common.{codes, sym, ◌∙◌}
 use Rattle.values.proofs.Scan.{same_text}
-use Rattle.fs.specs.Manifest.{pkg, marker}
 use Rattle.records.proofs.Items.{starts_bytes, not_pkg}
 use Rattle.records.proofs.item.is_reserved.Goals as goal
 

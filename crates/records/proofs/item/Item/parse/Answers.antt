@@ -1,6 +1,5 @@
 use Rattle.std.proofs.Common.{Ok, ◌∙◌, inl, inr, arith}
 use Rattle.std.proofs.lemmas.Result.{err_from_is_err_and}
-use Rattle.records.specs.Entries.{entry_of}
 use Rattle.records.specs.Items.{new_entry, entry_body}
 use Rattle.records.proofs.Items.{of_unknown, of_orphan, of_listed, after_ok, after_err}
 use Rattle.records.proofs.item.Item.parse.Goals as goal
