@@ -1,6 +1,6 @@
 -- A record is refused by its first ground. Assumes nothing.
 use Rattle.std.proofs.Common.{◌≡◌, ℕ, Bool, true, false, cond, not, ◌||◌, eqb, ltb, leb, List, [], ◌∷◌, ◌++◌, length, take, drop, Ok, Err, Result, sym, refl, ap, ◌∙◌}
-use mathlib.Core.Option.{Option, none, some}
+use Rattle.std.proofs.Math.Option.{Option, none, some}
 use Rattle.values.specs.Rules.{is_name, is_path, is_content}
 use Rattle.values.specs.declared.fault.ValueFault.TheVariants.{Malformed, TooLong}
 use Rattle.fs.specs.Change.{first_ground}

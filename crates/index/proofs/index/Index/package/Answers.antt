@@ -8,15 +8,15 @@ use Rattle.index.proofs.index.Index.package.Goals as goal
 
 pub returns-then-eq : goal.returns-then-eq
 returns-then-eq c =
-    sym (name_found (name_text c.args.name.now) c.as-slice-packages.result.now c.loop-p.p-index c.p-item.result c.loop-p-test.true c.p-item.is _ c.name.ensures c.if-eq.ensures)
+    sym (name_found (name_text c.args.name.now) c.as_slice-packages.result.now c.loop-p.p-index c.p-item.result c.loop-p-test.true c.p-item.is _ c.name.ensures c.if-eq.ensures)
     ∙ c.loop-p.invariant
 
 pub loop-p-preserved : goal.loop-p-preserved
 loop-p-preserved c =
-    name_passed (name_text c.args.name.now) c.as-slice-packages.result.now c.loop-p.p-index c.p-item.result c.loop-p-test.true c.p-item.is _ c.name.ensures c.if-eq.ensures
+    name_passed (name_text c.args.name.now) c.as_slice-packages.result.now c.loop-p.p-index c.p-item.result c.loop-p-test.true c.p-item.is _ c.name.ensures c.if-eq.ensures
     ∙ c.loop-p.invariant
 
 pub returns : goal.returns
 returns c =
-    sym (at_drop_all (λ ys. found (name_text c.args.name.now) (map pack_of ys)) c.as-slice-packages.result.now c.loop-p.p-index c.loop-p-test.false)
+    sym (at_drop_all (λ ys. found (name_text c.args.name.now) (map pack_of ys)) c.as_slice-packages.result.now c.loop-p.p-index c.loop-p-test.false)
     ∙ c.loop-p.invariant

@@ -11,28 +11,32 @@ use Rattle.index.proofs.Growth.{admitted, extended_ok}
 use Rattle.index.proofs.Lookups.{entries_length}
 use Rattle.index.proofs.packages.Package.add.Goals as goal
 
-pub invariant-of-self : goal.invariant-of-self
-invariant-of-self c =
+pub invariant_of-self : goal.invariant_of-self
+invariant_of-self c =
     let p = c.args.self.now in
     let v = p.entries in
     let w = c.push.new.self in
     let x = c.args.new in
     let b = is_ok c.push.result in
-    let u = c.in-ok-at.field-0 in
-    let ok = unplaced c.args.place c.admits.result u c.in-ok-at.ensures in
+    let u = c.in_ok-at.field-0 in
+    let ok = unplaced c.args.place c.admits.result u c.in_ok-at.ensures in
     let a = admitted 16 (path_text c.path.result) (entry_paths (entries_of v)) u (sym c.admits.ensures ∙ ok) in
     let new : has (entry_path (entry_of x)) (entry_paths (entries_of v)) ≡ false = ap (λ q. has q (entry_paths (entries_of v))) (sym c.path.ensures) ∙ a.1 in
     let room : vec_len v < 16 = omega (arith, a.0, entries_length v) in
-    (few_entries v w b x c.push.ensures.items c.push.ensures.len room, (apart_entries v w b x c.push.ensures.items p.apart new, (outside_entries v w b x c.push.ensures.items p.outside c.requires, tt)))
+    record {
+      few = few_entries v w b x c.push.ensures.items c.push.ensures.len room;
+      apart = apart_entries v w b x c.push.ensures.items p.apart new;
+      outside = outside_entries v w b x c.push.ensures.items p.outside c.requires;
+    }
 
 pub returns : goal.returns
 returns c =
     let p = c.args.self.now in
     let v = p.entries in
     let x = c.args.new in
-    let u = c.in-ok-at.field-0 in
-    let ok = unplaced c.args.place c.admits.result u c.in-ok-at.ensures in
+    let u = c.in_ok-at.field-0 in
+    let ok = unplaced c.args.place c.admits.result u c.in_ok-at.ensures in
     let a = admitted 16 (path_text c.path.result) (entry_paths (entries_of v)) u (sym c.admits.ensures ∙ ok) in
     let new : has (entry_path (entry_of x)) (entry_paths (entries_of v)) ≡ false = ap (λ q. has q (entry_paths (entries_of v))) (sym c.path.ensures) ∙ a.1 in
     extended_ok (pack_of p) (entry_of x) a.0 new
-    ∙ ap (λ l. Ok (name_text p.name, l)) (sym (ap (map entry_of) c.in-ok-push.ensures.items ∙ map_push entry_of (vec_items v) x))
+    ∙ ap (λ l. Ok (name_text p.name, l)) (sym (ap (map entry_of) c.in_ok-push.ensures.items ∙ map_push entry_of (vec_items v) x))

@@ -6,8 +6,8 @@ use Rattle.index.proofs.Growth.{admit_many, admit_again, admit_one}
 use Rattle.index.proofs.Lookups.{entries_length}
 use Rattle.index.proofs.packages.Package.admits.Goals as goal
 
-pub returns-then-len-ge-ENTRIES-MAX : goal.returns-then-len-ge-ENTRIES-MAX
-returns-then-len-ge-ENTRIES-MAX c =
+pub returns-then-len-ge-ENTRIES_MAX : goal.returns-then-len-ge-ENTRIES_MAX
+returns-then-len-ge-ENTRIES_MAX c =
     let v = c.args.self.now.entries in
     sym (admit_many 16 (path_text c.args.path.now) (entry_paths (entries_of v)) (omega (arith, entries_length v)))
 
