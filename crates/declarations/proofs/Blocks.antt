@@ -1,5 +1,5 @@
 -- What the code's parts of a block answer. Assumes nothing.
-use Rattle.std.proofs.Common.{◌≡◌, ℕ, Bool, true, false, cond, Ok, Err, Result, sym, refl, ap, ◌∙◌, arith}
+use Rattle.std.proofs.Common.{◌≡◌, ℕ, true, false, cond, Ok, Err, Result, sym, refl, ap, ◌∙◌, arith}
 use Rattle.std.proofs.lemmas.Bool.{cond-true, cond-false}
 use Rattle.lexer.specs.Lexing.{Seen, seen, end}
 use Rattle.lexer.specs.Rows.{Row, token, ended, broken, parsed, failed, next}
@@ -7,7 +7,7 @@ use Rattle.lexer.specs.declared.fault.LexFault.{LexFault}
 use Rattle.lexer.specs.declared.position.Position.{Position}
 use Rattle.syntax.specs.declared.fault.Ground.{Ground}
 use Rattle.syntax.specs.Faults.{located, no_token}
-use Rattle.syntax.specs.Reading.{Read, read, refused, checked, answer}
+use Rattle.syntax.specs.Reading.{read, refused, checked, answer}
 use Rattle.syntax.specs.Tokens.{of_seen}
 use Rattle.syntax.proofs.Steps.{holds, breaks}
 use Rattle.grammar.specs.Declarations.{closer_of, is_true, last_comma}

@@ -1,5 +1,5 @@
 -- An attribute that is taken was not given before. Assumes nothing.
-use Rattle.std.proofs.Common.{◌≡◌, ℕ, ◌+◌, ◌<◌, Bool, true, false, cond, ◌&&◌, List, is_some, Some, None, Ok, Err, codes, Option, Result, sym, refl, ap, ◌∙◌, arith}
+use Rattle.std.proofs.Common.{◌≡◌, ℕ, ◌+◌, ◌<◌, Bool, true, false, cond, ◌&&◌, List, is_some, Some, None, Ok, Err, codes, Option, Result, refl, ap, arith}
 use Rattle.values.specs.Rules.{is_content}
 use Rattle.values.specs.declared.fault.ValueFault.TheVariants.{TooLong}
 use Rattle.fs.specs.Tree.{same}

@@ -1,5 +1,5 @@
 -- A resource has the title that it was declared with. Assumes nothing.
-use Rattle.std.proofs.Common.{◌≡◌, ℕ, List, Some, None, Option, refl, ap, arith}
+use Rattle.std.proofs.Common.{◌≡◌, ℕ, List, Some, None, Option, ap, arith}
 use Rattle.syntax.specs.declared.attribute.Want.{Want}
 use Rattle.syntax.specs.declared.attribute.Want.TheVariants.{File as AsFile, Directory, Absent, Present, Running}
 use Rattle.syntax.specs.declared.kind.Kind.{Kind}

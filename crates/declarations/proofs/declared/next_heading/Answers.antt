@@ -1,4 +1,4 @@
-use Rattle.std.proofs.Common.{◌≡◌, sym, refl, ap, ◌∙◌}
+use Rattle.std.proofs.Common.{sym, ap, ◌∙◌}
 use Rattle.lexer.specs.Rows.{row_from}
 use Rattle.std.proofs.lemmas.Result.{IfOk-from_err}
 use Rattle.syntax.specs.Reading.{read}
@@ -8,72 +8,72 @@ use Rattle.declarations.specs.Meanings.{heading_of}
 use Rattle.declarations.proofs.Subjects.{subject_kinded, subject_titled, subject_holds, subject_fails}
 use Rattle.declarations.proofs.declared.next_heading.Goals as goal
 
-pub returns-in-err-next-mark : goal.returns-in-err-next-mark
+pub returns-in_err-next_mark : goal.returns-in_err-next_mark
 unfolding heading
-returns-in-err-next-mark c = record {
-  reads = λ s. let h = c.in-err-next-mark.ensures s in record { stands = h.stands; answers = exits heading_of _ _ c.from-residual.ensures.1 ∙ stop _ h.answers };
-  kinded = IfOk-from_err _ _ c.from-residual.ensures.0;
+returns-in_err-next_mark c = record {
+  reads = λ s. let h = c.in_err-next_mark.ensures s in record { stands = h.stands; answers = exits heading_of _ _ c.from_residual.ensures.1 ∙ stop _ h.answers };
+  kinded = IfOk-from_err _ _ c.from_residual.ensures.0;
 }
 
-pub returns-in-err-title : goal.returns-in-err-title
+pub returns-in_err-title : goal.returns-in_err-title
 unfolding heading
-returns-in-err-title c = record {
+returns-in_err-title c = record {
   reads =
       λ s.
-      let a = c.in-ok-next-mark.ensures s in
-      let h = c.in-err-title.ensures a.stands in
-      record { stands = h.stands; answers = exits heading_of _ _ c.from-residual-in-err-title.ensures.1 ∙ then _ a.answers (stop _ h.answers) };
-  kinded = IfOk-from_err _ _ c.from-residual-in-err-title.ensures.0;
+      let a = c.in_ok-next_mark.ensures s in
+      let h = c.in_err-title.ensures a.stands in
+      record { stands = h.stands; answers = exits heading_of _ _ c.from_residual-in_err-title.ensures.1 ∙ then _ a.answers (stop _ h.answers) };
+  kinded = IfOk-from_err _ _ c.from_residual-in_err-title.ensures.0;
 }
 
-pub returns-in-err-subject : goal.returns-in-err-subject
+pub returns-in_err-subject : goal.returns-in_err-subject
 unfolding heading
-returns-in-err-subject c = record {
+returns-in_err-subject c = record {
   reads =
       λ s.
-      let a = c.in-ok-next-mark.ensures s in
-      let t = c.in-ok-title.ensures a.stands in
-      let title = c.in-ok-title.title in
+      let a = c.in_ok-next_mark.ensures s in
+      let t = c.in_ok-title.ensures a.stands in
+      let title = c.in_ok-title.title in
       record {
         stands = t.stands;
         answers =
-            exits heading_of _ _ c.from-residual-in-err-subject.ensures.1
-            ∙ then _ a.answers (then _ t.answers (subject_fails c.args.kind title.bytes.now title.at _ c.parse.ensures _ _ (sym c.at.ensures ∙ c.in-err-subject.was)));
+            exits heading_of _ _ c.from_residual-in_err-subject.ensures.1
+            ∙ then _ a.answers (then _ t.answers (subject_fails c.args.kind title.bytes.now title.at _ c.parse.ensures _ _ (sym c.at.ensures ∙ c.in_err-subject.was)));
       };
-  kinded = IfOk-from_err _ _ c.from-residual-in-err-subject.ensures.0;
+  kinded = IfOk-from_err _ _ c.from_residual-in_err-subject.ensures.0;
 }
 
-pub returns-in-err-next-mark-2 : goal.returns-in-err-next-mark-2
+pub returns-in_err-next_mark-2 : goal.returns-in_err-next_mark-2
 unfolding heading
-returns-in-err-next-mark-2 c = record {
+returns-in_err-next_mark-2 c = record {
   reads =
       λ s.
-      let a = c.in-ok-next-mark.ensures s in
-      let t = c.in-ok-title.ensures a.stands in
-      let title = c.in-ok-title.title in
-      let h = c.in-err-next-mark-2.ensures t.stands in
+      let a = c.in_ok-next_mark.ensures s in
+      let t = c.in_ok-title.ensures a.stands in
+      let title = c.in_ok-title.title in
+      let h = c.in_err-next_mark-2.ensures t.stands in
       record {
         stands = h.stands;
         answers =
-            exits heading_of _ _ c.from-residual-in-err-next-mark-2.ensures.1
-            ∙ then _ a.answers (then _ t.answers (subject_holds c.args.kind title.bytes.now title.at _ c.parse.ensures _ c.in-ok-subject.subject _ (sym c.at.ensures ∙ c.in-ok-subject.was) (stop _ h.answers)));
+            exits heading_of _ _ c.from_residual-in_err-next_mark-2.ensures.1
+            ∙ then _ a.answers (then _ t.answers (subject_holds c.args.kind title.bytes.now title.at _ c.parse.ensures _ c.in_ok-subject.subject _ (sym c.at.ensures ∙ c.in_ok-subject.was) (stop _ h.answers)));
       };
-  kinded = IfOk-from_err _ _ c.from-residual-in-err-next-mark-2.ensures.0;
+  kinded = IfOk-from_err _ _ c.from_residual-in_err-next_mark-2.ensures.0;
 }
 
 pub returns : goal.returns
 unfolding heading
 returns c =
-    let title = c.in-ok-title.title in
-    let u = c.in-ok-subject.subject in
-    let e = sym c.at.ensures ∙ c.in-ok-subject.was in
+    let title = c.in_ok-title.title in
+    let u = c.in_ok-subject.subject in
+    let e = sym c.at.ensures ∙ c.in_ok-subject.was in
     record {
       reads =
           λ s.
-          let a = c.in-ok-next-mark.ensures s in
-          let t = c.in-ok-title.ensures a.stands in
-          let h = c.in-ok-next-mark-2.ensures t.stands in
-          let q = row_from c.args.text.now c.next-mark-2.new.at.place in
+          let a = c.in_ok-next_mark.ensures s in
+          let t = c.in_ok-title.ensures a.stands in
+          let h = c.in_ok-next_mark-2.ensures t.stands in
+          let q = row_from c.args.text.now c.next_mark-2.new.at.place in
           record {
             stands = h.stands;
             answers =

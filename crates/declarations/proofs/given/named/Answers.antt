@@ -3,17 +3,17 @@ use Rattle.std.proofs.lemmas.Bool.Decides.{nat_tests}
 use Rattle.grammar.specs.Declarations.{named}
 use Rattle.declarations.proofs.given.named.Goals as goal
 
-pub returns-then-is-some : goal.returns-then-is-some
+pub returns-then-is_some : goal.returns-then-is_some
 unfolding named
-returns-then-is-some c = grind (arith, nat_tests)
+returns-then-is_some c = grind (arith, nat_tests)
 
 pub returns-then-same : goal.returns-then-same
 unfolding named
 returns-then-same c = grind (arith, nat_tests)
 
-pub returns-then-is-some-2 : goal.returns-then-is-some-2
+pub returns-then-is_some-2 : goal.returns-then-is_some-2
 unfolding named
-returns-then-is-some-2 c = grind (arith, nat_tests)
+returns-then-is_some-2 c = grind (arith, nat_tests)
 
 pub returns-then-same-2 : goal.returns-then-same-2
 unfolding named
