@@ -1,5 +1,5 @@
 -- Whether an arrow comes next, by what the lexer answers. Assumes nothing.
-use Rattle.std.proofs.Common.{◌≡◌, ℕ, Bool, is_some, sym, refl, ap, ◌∙◌, arith}
+use Rattle.std.proofs.Common.{◌≡◌, ℕ, is_some, ap, arith}
 use Rattle.lexer.specs.Lexing.{Seen, seen, end}
 use Rattle.lexer.specs.Rows.{Row, token, ended, broken, parsed, failed, next}
 use Rattle.lexer.specs.declared.fault.LexFault.{LexFault}

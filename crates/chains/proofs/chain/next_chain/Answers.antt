@@ -1,4 +1,4 @@
-use Rattle.std.proofs.Common.{◌≡◌, Bool, true, false, not, List, map, vec_items, sym, refl, ap, ◌∙◌, arith}
+use Rattle.std.proofs.Common.{◌≡◌, Bool, true, not, map, vec_items, sym, refl, ap, ◌∙◌, arith}
 use Rattle.lexer.specs.Rows.{row_from}
 use Rattle.syntax.specs.Reading.{Read, read}
 use Rattle.syntax.specs.Repeating.{Turn}
@@ -14,83 +14,83 @@ use Rattle.chains.proofs.chain.next_chain.Goals as goal
 pub loop-next-init : goal.loop-next-init
 loop-next-init c s = (s, refl)
 
-pub returns-in-err-left : goal.returns-in-err-left
+pub returns-in_err-left : goal.returns-in_err-left
 unfolding chain
-returns-in-err-left c s =
-    let h = c.in-err-left.ensures s in
-    record { stands = h.stands; told = fails _ _ _ _ c.from-residual.ensures.1 (stop _ h.answers) }
+returns-in_err-left c s =
+    let h = c.in_err-left.ensures s in
+    record { stands = h.stands; told = fails _ _ _ _ c.from_residual.ensures.1 (stop _ h.answers) }
 
-pub returns-in-err-next : goal.returns-in-err-next
+pub returns-in_err-next : goal.returns-in_err-next
 unfolding chain chain_turn
-returns-in-err-next c s =
-    let b = c.in-ok-left.ensures s in
+returns-in_err-next c s =
+    let b = c.in_ok-left.ensures s in
     let i = c.loop-next.invariant b.stands in
-    let h = c.in-err-next.ensures i.0 in
+    let h = c.in_err-next.ensures i.0 in
     record {
       stands = h.stands;
-      told = fails _ _ _ _ c.from-residual-in-err-next.ensures.1 (then _ b.answers (stop _ (sym (turn_fault chain_turn _ _ (stop _ h.answers)) ∙ i.1)));
+      told = fails _ _ _ _ c.from_residual-in_err-next.ensures.1 (then _ b.answers (stop _ (sym (turn_fault chain_turn _ _ (stop _ h.answers)) ∙ i.1)));
     }
 
-pub returns-then-len-ge-LINKS-MAX : goal.returns-then-len-ge-LINKS-MAX
+pub returns-then-len-ge-LINKS_MAX : goal.returns-then-len-ge-LINKS_MAX
 unfolding chain chain_turn
-returns-then-len-ge-LINKS-MAX c s =
-    let b = c.in-ok-left.ensures s in
+returns-then-len-ge-LINKS_MAX c s =
+    let b = c.in_ok-left.ensures s in
     let i = c.loop-next.invariant b.stands in
-    let n = c.in-ok-next.ensures i.0 in
+    let n = c.in_ok-next.ensures i.0 in
     record {
       stands = n.stands;
-      told = then _ b.answers (stop _ (sym (turn_fault chain_turn _ _ (then _ n.answers (missing _ _ _ (room_none link_of 64 c.loop-next.links _ c.len.ensures _ c.if-len-ge-LINKS-MAX.true)))) ∙ i.1));
+      told = then _ b.answers (stop _ (sym (turn_fault chain_turn _ _ (then _ n.answers (missing _ _ _ (room_none link_of 64 c.loop-next.links _ c.len.ensures _ c.if-len-ge-LINKS_MAX.true)))) ∙ i.1));
     }
 
-pub returns-in-err-push : goal.returns-in-err-push
-returns-in-err-push c s =
-    let b = c.in-ok-left.ensures s in
+pub returns-in_err-push : goal.returns-in_err-push
+returns-in_err-push c s =
+    let b = c.in_ok-left.ensures s in
     let i = c.loop-next.invariant b.stands in
-    let n = c.in-ok-next.ensures i.0 in
-    record { stands = n.stands; told = wants _ _ _ _ c.from-residual-in-err-push.ensures.1 }
+    let n = c.in_ok-next.ensures i.0 in
+    record { stands = n.stands; told = wants _ _ _ _ c.from_residual-in_err-push.ensures.1 }
 
-pub returns-in-err-sees-arrow : goal.returns-in-err-sees-arrow
+pub returns-in_err-sees_arrow : goal.returns-in_err-sees_arrow
 unfolding chain chain_turn
-returns-in-err-sees-arrow c s =
-    let b = c.in-ok-left.ensures s in
+returns-in_err-sees_arrow c s =
+    let b = c.in_ok-left.ensures s in
     let i = c.loop-next.invariant b.stands in
-    let n = c.in-ok-next.ensures i.0 in
-    let r = room_some link_of 64 c.loop-next.links _ c.len.ensures _ _ c.if-len-ge-LINKS-MAX.false c.in-ok-push.ensures.items in
-    let h = c.in-err-sees-arrow.ensures n.stands in
+    let n = c.in_ok-next.ensures i.0 in
+    let r = room_some link_of 64 c.loop-next.links _ c.len.ensures _ _ c.if-len-ge-LINKS_MAX.false c.in_ok-push.ensures.items in
+    let h = c.in_err-sees_arrow.ensures n.stands in
     record {
       stands = n.stands;
-      told = fails _ _ _ _ c.from-residual-in-err-sees-arrow.ensures.1 (then _ b.answers (stop _ (sym (turn_fault chain_turn _ _ (then _ n.answers (there _ _ _ r (stop _ h)))) ∙ i.1)));
+      told = fails _ _ _ _ c.from_residual-in_err-sees_arrow.ensures.1 (then _ b.answers (stop _ (sym (turn_fault chain_turn _ _ (then _ n.answers (there _ _ _ r (stop _ h)))) ∙ i.1)));
     }
 
 pub returns-then-not-branch : goal.returns-then-not-branch
 unfolding chain chain_turn
 returns-then-not-branch c s =
-    let b = c.in-ok-left.ensures s in
+    let b = c.in_ok-left.ensures s in
     let i = c.loop-next.invariant b.stands in
-    let n = c.in-ok-next.ensures i.0 in
-    let r = room_some link_of 64 c.loop-next.links _ c.len.ensures _ _ c.if-len-ge-LINKS-MAX.false c.in-ok-push.ensures.items in
+    let n = c.in_ok-next.ensures i.0 in
+    let r = room_some link_of 64 c.loop-next.links _ c.len.ensures _ _ c.if-len-ge-LINKS_MAX.false c.in_ok-push.ensures.items in
     let q = row_from c.args.text.now c.next_link.new.at.place in
-    let state : Chained = record { left = ref_of c.in-ok-next.next.right; links = map link_of (vec_items c.push.new.self) } in
+    let state : Chained = record { left = ref_of c.in_ok-next.next.right; links = map link_of (vec_items c.push.new.self) } in
     let made : Bool → Read (Turn Chained) = λ x. read (record { state = state; last = not x }) q in
     record {
       stands = n.stands;
       told =
-          then _ b.answers (then _ (sym (turn_last chain_turn _ _ q (then _ n.answers (there _ _ _ r (then _ (c.in-ok-sees-arrow.ensures n.stands) (ap made (sym c.if-not-branch.true)))))) ∙ i.1) refl);
+          then _ b.answers (then _ (sym (turn_last chain_turn _ _ q (then _ n.answers (there _ _ _ r (then _ (c.in_ok-sees_arrow.ensures n.stands) (ap made (sym c.if-not-branch.true)))))) ∙ i.1) refl);
     }
 
 pub loop-next-smaller : goal.loop-next-smaller
-loop-next-smaller c = omega (arith, c.in-ok-push.ensures.len, c.len.ensures, c.if-len-ge-LINKS-MAX.false)
+loop-next-smaller c = omega (arith, c.in_ok-push.ensures.len, c.len.ensures, c.if-len-ge-LINKS_MAX.false)
 
 pub loop-next-preserved : goal.loop-next-preserved
 unfolding chain_turn
 loop-next-preserved c s =
     let i = c.loop-next.invariant s in
-    let n = c.in-ok-next.ensures i.0 in
-    let r = room_some link_of 64 c.loop-next.links _ c.len.ensures _ _ c.if-len-ge-LINKS-MAX.false c.in-ok-push.ensures.items in
+    let n = c.in_ok-next.ensures i.0 in
+    let r = room_some link_of 64 c.loop-next.links _ c.len.ensures _ _ c.if-len-ge-LINKS_MAX.false c.in_ok-push.ensures.items in
     let q = row_from c.args.text.now c.next_link.new.at.place in
-    let state : Chained = record { left = ref_of c.in-ok-next.next.right; links = map link_of (vec_items c.push.new.self) } in
+    let state : Chained = record { left = ref_of c.in_ok-next.next.right; links = map link_of (vec_items c.push.new.self) } in
     let made : Bool → Read (Turn Chained) = λ x. read (record { state = state; last = not x }) q in
     let row = row_from c.args.text.now c.loop-next.at.place in
     let before : Chained = record { left = ref_of c.loop-next.left; links = map link_of (vec_items c.loop-next.links) } in
-    let t : made true ≡ chain_turn before row = then _ n.answers (there _ _ _ r (then _ (c.in-ok-sees-arrow.ensures n.stands) (ap made (sym c.if-not-branch.false)))) in
+    let t : made true ≡ chain_turn before row = then _ n.answers (there _ _ _ r (then _ (c.in_ok-sees_arrow.ensures n.stands) (ap made (sym c.if-not-branch.false)))) in
     (n.stands, sym (turn_more chain_turn before row q t (left_below row (chain_turn_strict before row) t)) ∙ i.1)
