@@ -30,7 +30,7 @@ fn named(heap: Global, calls: &str) -> Result<Vec<Path>, AllocError> {
             }
         }
     }
-    paths.sort();
+    paths.sort_unstable();
     paths.dedup();
     Ok(paths)
 }
