@@ -1,6 +1,6 @@
 -- A change that is taken leaves a sound rig. Assumes nothing.
 use Rattle.std.proofs.Common.{◌≡◌, ◌+◌, ◌<◌, ◌≤◌, Bool, true, false, cond, List, [], ◌∷◌, length, sym, refl, subst, true≢false, arith}
-use Rattle.std.specs.List.{AllByRecursion as All}
+use Rattle.std.specs.List.{AllByRecursion}
 use Rattle.std.proofs.lemmas.Bool.{and_parts, and_from}
 use Rattle.values.specs.Rules.{all, is_path, is_content}
 use Rattle.values.specs.Texts.{path_text, content_text}
@@ -67,6 +67,6 @@ sound_call c g h r s e =
       few = omega (arith, s.few);
     })
 
-pub sound_calls : (l : List Change) (g h : Rig) → All Ruled l → Sound g → calls l g ≡ taken h → Sound h
+pub sound_calls : (l : List Change) (g h : Rig) → AllByRecursion Ruled l → Sound g → calls l g ≡ taken h → Sound h
 sound_calls [] g h r s e = subst Sound (taken_eq e) s
 sound_calls (c ∷ l) g h r s e = let k = calls_parts c l g h e in sound_calls l k.0 h r.1 (sound_call c g k.0 r.0 s k.1) k.2

@@ -1,7 +1,7 @@
 -- What holds of the rig that a journal means. Assumes nothing.
 use Rattle.std.specs.Prelude.{◌≡◌, ◌+◌, ◌-◌, ◌≤◌, true, List, [], ◌∷◌, ◌++◌, map, length, Ok, Err, Result}
 use Rattle.std.proofs.Common.{sym, ap, ◌∙◌, arith}
-use Rattle.std.specs.List.{AllByRecursion as All}
+use Rattle.std.specs.List.{AllByRecursion}
 use Rattle.fs.specs.Change.{Change, made, allows_all, call, calls, after_all}
 use Rattle.fs.specs.Rig.{Rig, taken, on_taken}
 use Rattle.fs.specs.Tree.{Path, same, parent, children}
@@ -29,7 +29,7 @@ emptied valid means j e =
     let none : calls [] g ≡ taken (after_all [] g) = λ i. taken (record { tree = g.tree; capacity = g.capacity; allowance = z i }) in
     (e, λ v. (v, ap (λ l. calls l g) e ∙ none ∙ ap (λ l. taken (after_all l g)) (sym e)))
 
-pub all_ruled : (held : List value.Change) → All Ruled (map change_of held)
+pub all_ruled : (held : List value.Change) → AllByRecursion Ruled (map change_of held)
 all_ruled [] = tt
 all_ruled (c ∷ held) = (change_ruled c, all_ruled held)
 

@@ -1,7 +1,7 @@
 -- Where a path stands in a sorted tree, and what a table's records say of it. Assumes nothing.
 use Rattle.std.specs.Prelude.{◌≡◌, ℕ, zero, suc, ◌+◌, ◌<◌, true, false, cond, List, [], ◌∷◌, ◌++◌, length, get_or, take, drop, vec_items, slice_index_or, refl}
 use Rattle.std.proofs.Common.{sym, ap, subst, ◌∙◌, true≢false, ⊎_elim, add-one, arith}
-use Rattle.std.specs.List.{insert, remove, AllByRecursion as All}
+use Rattle.std.specs.List.{insert, remove, AllByRecursion}
 use Rattle.std.proofs.lemmas.List.{drop_more, drop_all, get_or-map, at_drop_more, length-map, map-append, take-map, drop-map}
 use Rattle.std.proofs.lemmas.Bool.{and_from, cases_Bool}
 use Rattle.values.specs.Rules.{all, is_path}
@@ -34,19 +34,19 @@ apart_back p q h = same_no p q (λ e. before_ne q p h (sym e))
 not_back : (p q : Path) → before q p ≡ true → before p q ≡ false
 not_back p q h = ⊎_elim (λ k. absurd (true≢false (sym (before_trans p q p k h) ∙ before_not_same p))) (λ k. k) (cases_Bool (before p q))
 
-front_at : (p : Path) (i : ℕ) (t : Tree) → All (Before p) (take i t) → at t p ≡ at (drop i t) p
+front_at : (p : Path) (i : ℕ) (t : Tree) → AllByRecursion (Before p) (take i t) → at t p ≡ at (drop i t) p
 front_at p zero t a = refl
 front_at p (suc i) [] a = refl
 front_at p (suc i) (e ∷ t) a = ap (λ b. cond b e.1 (at t p)) (apart_back p e.0 a.0) ∙ front_at p i t a.1
 
-front_with : (p : Path) (n : Node) (i : ℕ) (t : Tree) → All (Before p) (take i t) → with_node p n t ≡ take i t ++ with_node p n (drop i t)
+front_with : (p : Path) (n : Node) (i : ℕ) (t : Tree) → AllByRecursion (Before p) (take i t) → with_node p n t ≡ take i t ++ with_node p n (drop i t)
 front_with p n zero t a = refl
 front_with p n (suc i) [] a = refl
 front_with p n (suc i) (e ∷ t) a =
     (λ k. cond (apart_back p e.0 a.0 k) ((p, n) ∷ t) (cond (not_back p e.0 a.0 k) ((p, n) ∷ (e ∷ t)) (e ∷ with_node p n t)))
     ∙ ap (λ x. e ∷ x) (front_with p n i t a.1)
 
-front_without : (p : Path) (i : ℕ) (t : Tree) → All (Before p) (take i t) → without p t ≡ take i t ++ without p (drop i t)
+front_without : (p : Path) (i : ℕ) (t : Tree) → AllByRecursion (Before p) (take i t) → without p t ≡ take i t ++ without p (drop i t)
 front_without p zero t a = refl
 front_without p (suc i) [] a = refl
 front_without p (suc i) (e ∷ t) a = ap (λ b. cond b (without p t) (e ∷ without p t)) (apart_back p e.0 a.0) ∙ ap (λ x. e ∷ x) (front_without p i t a.1)
@@ -56,7 +56,7 @@ sorted_drop zero t s = s
 sorted_drop (suc i) [] s = tt
 sorted_drop (suc i) (e ∷ t) s = sorted_drop i t s.2
 
-module _ (t : Tree) (s : Sorted t) (p : Path) (i : ℕ) (front : All (Before p) (take i t)) where
+module _ (t : Tree) (s : Sorted t) (p : Path) (i : ℕ) (front : AllByRecursion (Before p) (take i t)) where
   module _ (within : i < length t) (x : Path × Node) (read : get_or t i (p, nothing) ≡ x) where
     rest : Tree
     rest = drop (i + 1) t
