@@ -1,14 +1,14 @@
 -- What an addition leaves. Assumes nothing.
-use Rattle.std.proofs.Common.{◌≡◌, ℕ, suc, ◌+◌, ◌<◌, ◌≤◌, Bool, true, false, cond, not, eqb, List, [], ◌∷◌, ◌++◌, map, length, get_or, take, drop, set, is_ok, IsErrAnd, Ok, Err, vec_items, vec_len, Result, Vec, sym, refl, ap, ◌∙◌, subst, add-one, arith}
+use Rattle.std.proofs.Common.{◌≡◌, ℕ, suc, ◌+◌, ◌<◌, ◌≤◌, Bool, true, false, cond, not, eqb, List, [], ◌∷◌, ◌++◌, map, length, get_or, take, set, is_ok, IsErrAnd, Ok, Err, vec_items, vec_len, Result, Vec, sym, refl, ap, ◌∙◌, subst, arith}
 use Rattle.std.specs.declared.alloc.Global.{Global}
-use Rattle.std.proofs.lemmas.List.{map_push, map-append, map-set, set_split, drop_all, take-append-drop, drop_more}
-use Rattle.fs.specs.Tree.{Path, has}
+use Rattle.std.proofs.lemmas.List.{map_push, set_split, drop_all, take-append-drop, drop_more}
+use Rattle.fs.specs.Tree.{has}
 use Rattle.fs.specs.Package.{entry_paths, distinct, under_pkg, any_under_pkg}
 use Rattle.fs.specs.Manifest as model
 use Rattle.fs.specs.Manifest.{dir_entry, file_entry}
 use Rattle.records.specs.Entries.{entry_of, entry_path}
 use Rattle.records.specs.Faults.{fault_at, located}
-use Rattle.records.specs.Items.{Tells, after, Meaning, new_package, new_entry, meaning_of, meaning}
+use Rattle.records.specs.Items.{Tells, after, new_entry, meaning_of, meaning}
 use Rattle.records.specs.Saying.{Ruled}
 use Rattle.records.specs.declared.entry.Entry.{Entry}
 use Rattle.records.specs.declared.fault.Ground.{Ground}

@@ -1,6 +1,6 @@
 -- Lists without repeats, one more at the end. Assumes nothing.
-use Rattle.std.proofs.Common.{◌≡◌, ℕ, suc, Bool, true, false, cond, not, ◌&&◌, ◌||◌, List, [], ◌∷◌, ◌++◌, map, length, sym, refl, ap, ◌∙◌}
-use Rattle.std.proofs.lemmas.Bool.{and_parts, and_from, or_parts, or_from, or_right, not-true, not_from_false, true≢false}
+use Rattle.std.proofs.Common.{◌≡◌, suc, Bool, true, false, not, List, [], ◌∷◌, ◌++◌, length, sym, refl, ap, ◌∙◌}
+use Rattle.std.proofs.lemmas.Bool.{and_parts, and_from, or_parts, or_from, not-true, not_from_false, true≢false}
 use Rattle.fs.specs.Tree.{Path, same, has}
 use Rattle.fs.specs.Manifest.{Entry, dir_entry, file_entry}
 use Rattle.fs.specs.Package.{entry_paths, distinct, under_pkg, any_under_pkg}

@@ -1,6 +1,6 @@
 -- A record is refused by its first ground. Assumes nothing.
-use Rattle.std.proofs.Common.{◌≡◌, ℕ, Bool, true, false, cond, not, ◌||◌, eqb, ltb, leb, List, [], ◌∷◌, ◌++◌, length, take, drop, Ok, Err, Result, sym, refl, ap, ◌∙◌}
-use Rattle.std.proofs.Math.Option.{Option, none, some}
+use Rattle.std.proofs.Common.{◌≡◌, ℕ, Bool, true, false, cond, not, ◌||◌, eqb, ltb, leb, List, [], ◌∷◌, ◌++◌, length, take, drop, Ok, Err, Result, refl}
+use Rattle.std.proofs.Math.Option.{Option, some}
 use Rattle.values.specs.Rules.{is_name, is_path, is_content}
 use Rattle.values.specs.declared.fault.ValueFault.TheVariants.{Malformed, TooLong}
 use Rattle.fs.specs.Change.{first_ground}
@@ -8,7 +8,7 @@ use Rattle.fs.specs.Manifest.{Entry, dir_entry, file_entry}
 use Rattle.fs.specs.Package.{under_pkg}
 use Rattle.fs.specs.Tree.{has}
 use Rattle.records.specs.Entries.{entry_path}
-use Rattle.records.specs.Items.{after, name_check, directory_body, file_parts, file_body, Meaning, new_package, new_entry}
+use Rattle.records.specs.Items.{after, name_check, directory_body, file_body, new_package, new_entry}
 use Rattle.records.specs.declared.fault.Ground.{Ground}
 use Rattle.records.specs.declared.fault.Ground.TheVariants.{UnknownKind, NoPackage, ShortBody, Value, Reserved, TooMany, Repeated}
 use Rattle.index.specs.Packs.{Pack, names}

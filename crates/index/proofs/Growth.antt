@@ -1,15 +1,14 @@
 -- Packages, one record on. Assumes nothing.
-use Rattle.std.proofs.Common.{◌≡◌, ℕ, zero, suc, ◌+◌, ◌<◌, ◌≤◌, Bool, true, false, cond, not, eqb, leb, List, [], ◌∷◌, ◌++◌, map, length, Ok, Err, Result, sym, refl, ap, ◌∙◌, subst, arith}
+use Rattle.std.proofs.Common.{◌≡◌, ℕ, ◌<◌, ◌≤◌, Bool, true, false, cond, not, eqb, leb, List, [], ◌∷◌, ◌++◌, length, Ok, Err, Result, refl, ap, ◌∙◌, arith}
 use Rattle.std.proofs.lemmas.Bool.{cond-true, cond-false, le-leb, lt-leb, leb-false, ne_eqb, eqb-false, not-true, not_from_false}
 use Rattle.fs.specs.Tree.{has}
 use Rattle.fs.specs.Manifest.{Entry}
 use Rattle.fs.specs.Package.{entry_paths}
 use Rattle.records.specs.Entries.{entry_path}
-use Rattle.records.specs.Items.{after, Meaning, new_package, new_entry}
-use Rattle.records.specs.declared.fault.Ground.{Ground}
+use Rattle.records.specs.Items.{after, new_entry}
 use Rattle.records.specs.declared.fault.Ground.TheVariants.{TooMany, Repeated}
 use Rattle.records.proofs.Says.{not_both}
-use Rattle.index.specs.Packs.{Pack, names}
+use Rattle.index.specs.Packs.{Pack}
 use Rattle.index.specs.Reading.{admit, with_entry, extended, last_pack, with_last, grown}
 
 module _ (most : ℕ) (x : List ℕ) (before : List (List ℕ)) where

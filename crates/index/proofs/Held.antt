@@ -1,5 +1,5 @@
 -- What an index keeps, out of its ghost fields and those of what it holds. Assumes nothing.
-use Rattle.std.proofs.Common.{◌≡◌, ◌≤◌, true, false, List, [], ◌∷◌, map, length, vec_items, sym, refl, ap, ◌∙◌, subst, arith}
+use Rattle.std.proofs.Common.{◌≡◌, false, List, [], ◌∷◌, map, vec_items, arith}
 use Rattle.std.specs.List.{AllByRecursion as All}
 use Rattle.std.proofs.lemmas.List.{length-map}
 use Rattle.std.proofs.lemmas.Bool.{or_parts}
@@ -11,8 +11,7 @@ use Rattle.records.specs.Saying.{Ruled}
 use Rattle.records.specs.declared.entry.Entry.{Entry}
 use Rattle.records.specs.declared.entry.Entry.TheVariants.{Directory, File}
 use Rattle.index.specs.declared.packages.Package.{Package}
-use Rattle.index.specs.declared.index.Index.{Index}
-use Rattle.index.specs.Law.{LegalPack, Legal, HeldLegally, ProperlyHeld}
+use Rattle.index.specs.Law.{LegalPack, HeldLegally, ProperlyHeld}
 use Rattle.index.specs.Packages.{pack_of}
 
 ruled_entries : (es : List Entry) → any_under_pkg (entry_paths (map entry_of es)) ≡ false → All Ruled (map entry_of es)

@@ -1,6 +1,5 @@
 -- Reading stops at the first record that is at fault. Assumes nothing.
-use Rattle.std.proofs.Common.{◌≡◌, ℕ, ◌+◌, ◌<◌, ◌≤◌, Bool, true, false, cond, ltb, ◌⊎◌, List, [], ◌∷◌, ◌++◌, length, Ok, Err, Result, sym, refl, ap, ◌∙◌, subst, inl, inr, arith}
-use Rattle.std.proofs.Math.Option.{Option, none, some}
+use Rattle.std.proofs.Common.{◌≡◌, ℕ, ◌+◌, ◌<◌, Bool, true, false, cond, ltb, ◌⊎◌, List, [], ◌∷◌, ◌++◌, length, Ok, Err, Result, sym, refl, ap, ◌∙◌, subst, inl, inr, arith}
 use Rattle.std.proofs.lemmas.List.{append-nil, append_assoc, length-append}
 use Rattle.std.proofs.lemmas.Bool.{ltb-true, ltb-false}
 use Rattle.records.specs.Faults.{ground_number, fault_at, located}
@@ -12,9 +11,9 @@ use Rattle.records.specs.declared.fault.Ground.TheVariants.{IndexTooLong, PastEn
 use Rattle.records.specs.declared.fault.IndexFault.{IndexFault}
 use Rattle.records.proofs.Says.{not_both}
 use Rattle.records.proofs.Splits.{row_begins, row_cut}
-use Rattle.index.specs.Law.{index_records, Legal, Written}
+use Rattle.index.specs.Law.{index_records, Legal}
 use Rattle.index.specs.Packs.{Pack}
-use Rattle.index.specs.Reading.{taken_in, read_row, read_bytes}
+use Rattle.index.specs.Reading.{taken_in, read_row}
 use Rattle.index.specs.Refusals.{refusal, Faulty, Stopped, RefusedAtFirstFault}
 use Rattle.index.proofs.Grounds.{refused_by_first_ground}
 use Rattle.index.proofs.Laws.{gained}

@@ -1,11 +1,10 @@
 -- The loop that reads an index, one record on. Assumes nothing.
-use Rattle.std.proofs.Common.{◌≡◌, ℕ, ◌≤◌, Bool, true, false, cond, ◌⊎◌, List, [], length, is_ok, IsErrAnd, Ok, Err, Result, sym, refl, ap, ◌∙◌, subst, inl, inr, arith}
+use Rattle.std.proofs.Common.{◌≡◌, ℕ, ◌≤◌, true, ◌⊎◌, List, [], length, is_ok, IsErrAnd, Ok, Err, Result, sym, ap, ◌∙◌, inl, inr, arith}
 use Rattle.std.proofs.lemmas.Bool.{cond-false, le-ltb}
 use Rattle.records.specs.Faults.{located}
 use Rattle.records.specs.Heads.{Head}
 use Rattle.records.specs.Items.{after}
 use Rattle.records.specs.Rows.{row_from}
-use Rattle.records.specs.declared.fault.IndexFault.{IndexFault}
 use Rattle.records.specs.declared.row.Record.{Record}
 use Rattle.index.specs.declared.error.IndexError.{IndexError}
 use Rattle.index.specs.declared.error.IndexError.TheVariants.{Fault, Memory}
@@ -13,7 +12,7 @@ use Rattle.index.specs.declared.index.Index.{Index}
 use Rattle.index.specs.Answers.{begins_well, Answers}
 use Rattle.index.specs.Errors.{Added}
 use Rattle.index.specs.Packs.{Pack}
-use Rattle.index.specs.Reading.{taken_in, read_row, read_bytes}
+use Rattle.index.specs.Reading.{taken_in, read_row}
 
 -- the reading has not begun, or the first record was taken
 abbrev pub Begun : List ℕ → ℕ → List Pack → Type 0

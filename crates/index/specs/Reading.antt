@@ -1,5 +1,5 @@
 -- What bytes are read as: the packages of an index, or the first fault. Assumes nothing.
-use Rattle.std.specs.Prelude.{ℕ, Bool, cond, not, List, [], ◌∷◌, ◌++◌, length, Ok, Err, Result, ◌==◌, nat_le, nat_lt}
+use Rattle.std.specs.Prelude.{ℕ, cond, not, List, [], ◌∷◌, ◌++◌, length, Ok, Err, Result, ◌==◌, nat_le, nat_lt}
 use Rattle.fs.specs.Tree.{has}
 use Rattle.fs.specs.Manifest.{Entry}
 use Rattle.fs.specs.Package.{entry_paths}

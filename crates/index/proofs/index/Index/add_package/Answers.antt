@@ -1,4 +1,4 @@
-use Rattle.std.proofs.Common.{◌≡◌, ◌<◌, [], ◌∷◌, ◌++◌, is_ok, Ok, vec_len, sym, ap, ◌∙◌, arith}
+use Rattle.std.proofs.Common.{◌<◌, [], ◌∷◌, ◌++◌, is_ok, Ok, vec_len, sym, ap, ◌∙◌, arith}
 use Rattle.values.specs.Texts.{name_text}
 use Rattle.records.specs.Items.{after}
 use Rattle.index.specs.Indexes.{index_of}

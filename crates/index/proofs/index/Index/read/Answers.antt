@@ -1,4 +1,4 @@
-use Rattle.std.proofs.Common.{◌≡◌, is_ok, Ok, sym, ap, ◌∙◌, subst, inr, arith}
+use Rattle.std.proofs.Common.{is_ok, Ok, ap, ◌∙◌, subst, inr, arith}
 use Rattle.records.specs.Heads.{Head, Reads}
 use Rattle.index.specs.Indexes.{index_of}
 use Rattle.index.proofs.Turns.{reads_on, begins, stops}

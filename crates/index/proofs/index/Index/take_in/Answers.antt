@@ -1,6 +1,5 @@
 use Rattle.std.proofs.Common.{◌≡◌, not, eqb, length, Ok, sym, ap, ◌∙◌, subst}
 use Rattle.records.specs.Entries.{entry_of}
-use Rattle.records.specs.Faults.{located}
 use Rattle.records.specs.Items.{meaning_of}
 use Rattle.index.specs.Errors.{Added}
 use Rattle.index.specs.Indexes.{index_of}

@@ -1,4 +1,4 @@
-use Rattle.std.proofs.Common.{◌≡◌, map, drop, vec_items}
+use Rattle.std.proofs.Common.{◌≡◌, map, drop}
 use Rattle.values.specs.Texts.{path_text}
 use Rattle.fs.specs.Tree.{has}
 use Rattle.fs.specs.Package.{entry_paths}
