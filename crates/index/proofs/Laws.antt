@@ -1,6 +1,6 @@
 -- Just the bytes that spell an index are read. Assumes nothing.
 use Rattle.std.proofs.Common.{◌≡◌, ℕ, ◌+◌, ◌<◌, Bool, true, false, cond, not, eqb, ltb, List, [], ◌∷◌, ◌++◌, map, length, Ok, Err, Result, sym, refl, ap, ◌∙◌, subst, arith}
-use Rattle.std.specs.List.{AllByRecursion as All}
+use Rattle.std.specs.List.{AllByRecursion}
 use Rattle.std.proofs.ByRecursion.{All-push}
 use Rattle.std.proofs.lemmas.List.{append-nil, append_assoc, length-append, length_push, length-map, map-append, map_push}
 use Rattle.std.proofs.lemmas.Bool.{cond-false, ltb-false, le-ltb}
@@ -54,7 +54,7 @@ legal_package ps n l named few new =
       each = All-push LegalPack ps (n, []) l.each (record { named = named; few = omega arith; apart = refl; ruled = tt });
     }
 
-all_front : {X : Type 0} (P : X → Type 0) (xs : List X) (y : X) → All P (xs ++ y ∷ []) → All P xs × P y
+all_front : {X : Type 0} (P : X → Type 0) (xs : List X) (y : X) → AllByRecursion P (xs ++ y ∷ []) → AllByRecursion P xs × P y
 all_front P [] y h = (tt, h.0)
 all_front P (x ∷ xs) y h = let k = all_front P xs y h.1 in ((h.0, k.0), k.1)
 
@@ -152,7 +152,7 @@ module _ (front : List Pack) (n : List ℕ) where
       ∙ grown_entry front (n, ds) e
       ∙ ap (λ r. after r (λ q. Ok (front ++ q ∷ []))) (extended_ok (n, ds) e (omega arith) new)
     where
-      listed : (xs ys : List Entry) (x : Entry) → All Ruled (xs ++ x ∷ ys) → Ruled x
+      listed : (xs ys : List Entry) (x : Entry) → AllByRecursion Ruled (xs ++ x ∷ ys) → Ruled x
       listed [] ys x h = h.0
       listed (z ∷ xs) ys x h = listed xs ys x h.1
 
@@ -166,7 +166,7 @@ module _ (front : List Pack) (n : List ℕ) where
 legal_here : (front : List Pack) (p : Pack) (ps : List Pack) → Legal (front ++ p ∷ ps) → LegalPack p
 legal_here front p ps l = here front l.each
   where
-    here : (xs : List Pack) → All LegalPack (xs ++ p ∷ ps) → LegalPack p
+    here : (xs : List Pack) → AllByRecursion LegalPack (xs ++ p ∷ ps) → LegalPack p
     here [] h = h.0
     here (x ∷ xs) h = here xs h.1
 

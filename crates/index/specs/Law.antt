@@ -1,6 +1,6 @@
 -- What an index has to be, and that just the bytes that spell one are read. Assumes nothing.
 use Rattle.std.specs.Prelude.{◌≡◌, ℕ, ◌≤◌, true, ◌↔◌, List, [], ◌∷◌, ◌++◌, map, length, Ok}
-use Rattle.std.specs.List.{AllByRecursion as All}
+use Rattle.std.specs.List.{AllByRecursion}
 use Rattle.values.specs.Rules.{is_name}
 use Rattle.fs.specs.Manifest as model
 use Rattle.fs.specs.Package.{entry_paths, distinct, proper}
@@ -25,13 +25,13 @@ pub record LegalPack (p : Pack) : Type 0 where
   pub named : is_name p.0 ≡ true
   pub few : length p.1 ≤ 16
   pub apart : distinct (entry_paths p.1) ≡ true
-  pub ruled : All Ruled p.1
+  pub ruled : AllByRecursion Ruled p.1
 
 -- what every index keeps
 pub record Legal (ps : List Pack) : Type 0 where
   pub few : length ps ≤ 8
   pub apart : distinct (names ps) ≡ true
-  pub each : All LegalPack ps
+  pub each : AllByRecursion LegalPack ps
 
 -- these bytes are an index of these packages: a row of records that spells them, not too long, and all that an index has to be
 pub record Written (bytes : List ℕ) (ps : List Pack) : Type 0 where
