@@ -1,9 +1,6 @@
 // The calls of a host on a table.
 ghost use Rattle.table_host.specs.Tables.{rig_of};
-ghost use Rattle.std.proofs.Common.{arith};
-ghost use Rattle.table_host.specs.Records.{nodes};
-ghost use Rattle.table_host.specs.Kept.{ordered_of, grounded_of, count_of};
-ghost use Rattle.table_host.specs.PlacesLemmas.{proper_records};
+ghost use Rattle.table_host.specs.Soundness.{sound_of};
 
 use super::TableHost;
 use host::{Allowance, Host, HostFault, Kind, Stored};
@@ -15,16 +12,7 @@ impl Host for TableHost {
     // Its rules are in its type.
     ghost valid = { λ _. Unit {0} };
 
-    ghost sound = { λ h v.
-        record {
-          sorted = ordered_of h;
-          rooted = grounded_of h;
-          proper = proper_records (nodes h.table);
-          fits = omega (arith, count_of h, h.fits);
-          low = h.low;
-          high = h.high;
-          few = h.few;
-        } };
+    ghost sound = { λ h _. sound_of h };
 
     fn look(&self, p: &Path) -> Kind {
         self.kind_at(p)
