@@ -1,12 +1,12 @@
 ghost use Rattle.std.specs.Prelude.{◌≡◌, true, false, [], Some, refl, IsSomeAnd, MatchOption, MatchResult};
-ghost use Rattle.std.specs.Cmp.Lexicographic.{slice_cmp};
+ghost use Rattle.std.specs.Cmp.Lexicographic.{slice_cmp, on_texts};
 ghost use Rattle.std.specs.Ordering.{nat_cmp};
 ghost use Rattle.fs.specs.Tree.{parent, same};
 ghost use Rattle.values.specs.Faults.{value_fault_number};
 ghost use Rattle.values.specs.Order.{Ordered};
 ghost use Rattle.values.specs.Rules.{is_path};
 ghost use Rattle.values.specs.Texts.{path_text};
-ghost use Rattle.values.specs.Comparing.{texts_per, texts_equiv, texts_order, texts_total, texts_tie};
+ghost use Rattle.values.specs.Comparing.{texts_per, texts_equiv, texts_order, texts_tie};
 
 use super::Path;
 use crate::bytes::Bytes;
@@ -86,7 +86,7 @@ impl PartialOrd for Path {
 impl Ord for Path {
     ghost cmp = { λ x y. slice_cmp nat_cmp (path_text x) (path_text y) };
 
-    ghost total = { texts_total path_text };
+    ghost total = { on_texts path_text };
 
     ghost matches_partial_cmp = { λ x y. refl };
 
