@@ -1,1 +1,2 @@
 pub mod Arrows
+pub mod Fronts

@@ -1,4 +1,4 @@
-ghost use Rattle.std.specs.Prelude.{◌≡◌, map};
+ghost use Rattle.std.specs.Prelude.{◌≡◌, length, map, take};
 ghost use Rattle.lexer.specs.Bytes.{Stands};
 ghost use Rattle.lexer.specs.Lexing.{sight};
 ghost use Rattle.lexer.specs.Rows.{row_from};
@@ -74,6 +74,7 @@ fn next_link<'a>(text: &'a [u8], at: &mut Position, left: Ref<'a>) -> Result<Lin
 }
 
 // What stands behind the word of the first reference's kind, which stands at `first`; the links come behind those that are there.
+// A refusal keeps those that were there, and may leave some of this chain behind them.
 pub fn next_chain<'a>(
     text: &'a [u8],
     at: &mut Position,
@@ -81,7 +82,8 @@ pub fn next_chain<'a>(
     first: Position,
     links: &mut Vec<Link<'a>>,
 ) -> Result<(), TextError>
-    ensures { Stands text.now at.old → Tries (λ _. map link_of links.new.items) (chain_at kind first (map link_of links.old.items)) text.now at.old result at.new }
+    ensures kept { take (length links.old.items) links.new.items ≡ links.old.items }
+    ensures reads { Stands text.now at.old → Tries (λ _. map link_of links.new.items) (chain_at kind first (map link_of links.old.items)) text.now at.old result at.new }
 {
     let mut left = next_bracketed(text, at, kind, first)?;
     loop {

@@ -1,4 +1,4 @@
-use Rattle.std.proofs.Common.{◌≡◌, ◌-◌, map, vec_items, vec_len}
+use Rattle.std.proofs.Common.{◌≡◌, ◌-◌, length, map, take, vec_items, vec_len}
 use Rattle.lexer.specs.Bytes.{Stands}
 use Rattle.lexer.specs.Rows.{row_from}
 use Rattle.syntax.specs.Repeating.{repeated}
@@ -6,12 +6,13 @@ use Rattle.grammar.specs.Chains.{chain_turn}
 use Rattle.chains.specs.Meanings.{ref_of, link_of}
 use Rattle.chains.proofs.chain.next_chain.Given as goal
 
--- what is left of the chain reads as the whole did behind its first reference
+-- the links that were there stand in front, and what is left of the chain reads as the whole did behind its first reference
 abbrev pub invariant-loop-next : goal.invariant-loop-next
 invariant-loop-next l =
-    Stands l.text l.initial.at → Stands l.text l.at
+    (take (length (vec_items l.initial.links)) (vec_items l.links) ≡ vec_items l.initial.links)
+    × (Stands l.text l.initial.at → Stands l.text l.at
     × (repeated chain_turn (record { left = ref_of l.left; links = map link_of (vec_items l.links) }) (row_from l.text l.at.place)
-    ≡ repeated chain_turn (record { left = ref_of l.initial.left; links = map link_of (vec_items l.initial.links) }) (row_from l.text l.initial.at.place))
+    ≡ repeated chain_turn (record { left = ref_of l.initial.left; links = map link_of (vec_items l.initial.links) }) (row_from l.text l.initial.at.place)))
 
 abbrev pub decreases-loop-next : goal.decreases-loop-next
 decreases-loop-next l = 64 - vec_len l.links

@@ -1,0 +1,127 @@
+// One declaration and one chain, read off a text: what each refusal's number and place is, and that reading succeeds where memory is left.
+#![tactic(auto)]
+
+#[cfg(test)]
+mod tests {
+    use chains::Link;
+    use chains::chain::next_chain;
+    use declarations::Resource;
+    use declarations::declared::next_declaration;
+    use lexer::Position;
+    use std::test::Fail;
+    use syntax::{Arrow, Kind, TextError};
+
+    // The number and the place of a refusal; 0 where the text is read.
+    fn refusal(r: Result<(), TextError>) -> (u8, usize) {
+        match r {
+            Ok(()) => (0, 0),
+            Err(TextError::Fault(f)) => (f.ground.number(), f.at.place),
+            Err(TextError::Memory) => (255, 0),
+        }
+    }
+
+    // The sign of the resource that a file's declaration asks for, or the number of its refusal, with the place of its title or of the refused part.
+    fn file(text: &str) -> (char, u8, usize) {
+        let mut at = Position::start();
+        match next_declaration(text.as_bytes(), &mut at, Kind::File) {
+            Ok(d) => (sign(d.resource), 0, d.at.place),
+            Err(f) => ('!', f.ground.number(), f.at.place),
+        }
+    }
+
+    fn sign(resource: Resource) -> char {
+        match resource {
+            Resource::Put(_, _) => 'f',
+            Resource::Directory(_) => 'd',
+            Resource::Absent(_) => 'a',
+            Resource::Package(_) => 'p',
+            Resource::Service(_) => 's',
+        }
+    }
+
+    #[test]
+    fn declared_files(rt: HostRuntime) {
+        let cases = [
+            ("{ '/a': ensure => directory }", 'd', 0, 2),
+            ("{ '/a': ensure => absent, }", 'a', 0, 2),
+            ("{ '/a': ensure => file, content => 'hi' }", 'f', 0, 2),
+            ("{ '/a': content => 'hi', ensure => file }", 'f', 0, 2),
+            ("'/a': ensure => file }", '!', 13, 0),
+            ("{ '/a' ensure => file }", '!', 13, 7),
+            ("{ '/a': ensure ! file }", '!', 12, 15),
+            ("{ 'a': ensure => directory }", '!', 14, 2),
+            ("{ '/a': mode => file }", '!', 15, 8),
+            ("{ '/a': ensure => file, ensure => file }", '!', 15, 24),
+            ("{ '/a': ensure => present }", '!', 16, 18),
+            ("{ '/a': ensure => file }", '!', 17, 2),
+            ("{ '/a': content => 'hi' }", '!', 17, 2),
+            ("{ '/a': ensure => absent, content => 'hi' }", '!', 17, 2),
+        ];
+        for (text, sign, number, place) in cases {
+            assert!(rt; file(text) == (sign, number, place), "{}", text);
+        }
+    }
+
+    // Reads the chain of a text that begins with `File`.
+    fn chain<'a>(text: &'a [u8], links: &mut Vec<Link<'a>>) -> Result<(), TextError> {
+        let mut at = Position { place: 4, line: 1 };
+        next_chain(text, &mut at, Kind::File, Position::start(), links)
+    }
+
+    #[test]
+    fn two_links(rt: HostRuntime) {
+        let text = b"File['/a'] -> Package['fx'] ~> Service['mix']";
+        let mut links = Vec::new(rt.alloc());
+        assert!(rt; refusal(chain(text, &mut links)) == (0, 0));
+        assert_eq!(rt; links.len(), 2);
+        let (one, two) = (links[0], links[1]);
+        assert!(rt; one.arrow == Arrow::Before && two.arrow == Arrow::Notifies);
+        assert!(rt; one.at.place == 11 && two.at.place == 28);
+        assert!(rt; one.left.kind == Kind::File && one.left.title == b"/a".as_slice());
+        assert!(rt; one.right.kind == Kind::Package && one.right.title == b"fx".as_slice());
+        assert!(rt; two.left.kind == Kind::Package && two.left.at.place == 14);
+        assert!(rt; two.right.kind == Kind::Service && two.right.at.place == 31);
+    }
+
+    #[test]
+    fn broken_chains(rt: HostRuntime) {
+        let cases = [
+            ("File['/a']", 13, 10),
+            ("File['/a'] -> package['fx']", 13, 14),
+            ("File['/a'] - Package['fx']", 12, 11),
+            ("File['/a'] -> Package['fx'", 13, 26),
+            ("File['/a'] -> Package[fx]", 13, 22),
+            ("File '/a'] -> Package['fx']", 13, 5),
+        ];
+        for (text, number, place) in cases {
+            let mut links = Vec::new(rt.alloc());
+            assert!(rt;
+                refusal(chain(text.as_bytes(), &mut links)) == (number, place),
+                "{}",
+                text
+            );
+        }
+    }
+
+    // A chain of n links.
+    fn row(rt: &impl AllocGlobal, n: usize) -> Result<String, Fail> {
+        let mut text = String::new(rt.alloc());
+        text.push_str("File['/a']")?;
+        for _ in 0..n {
+            text.push_str(" -> File['/b']")?;
+        }
+        Ok(text)
+    }
+
+    // 64 links are read, and the 65th is refused at its arrow; those before it stay.
+    #[test]
+    fn most_links(rt: HostRuntime) -> Result<(), Fail> {
+        for (n, refused) in [(64, (0, 0)), (65, (20, 907))] {
+            let text = row(&rt, n)?;
+            let mut links = Vec::new(rt.alloc());
+            assert!(rt; refusal(chain(text.as_bytes(), &mut links)) == refused);
+            assert_eq!(rt; links.len(), 64);
+        }
+        Ok(())
+    }
+}
