@@ -1,6 +1,7 @@
 -- The proofs, from trees up.
 pub mod Trees
 pub mod Rooting
+pub mod Unique
 pub mod Calls
 pub mod Options
 pub mod Steps

@@ -2,7 +2,7 @@
 use Rattle.std.proofs.Common.{◌≡◌, suc, ◌<◌, Bool, true, false, cond, ◌≢◌, ◌⊎◌, [], ◌∷◌, sym, refl, ap, ◌∙◌, inl, inr, true≢false, arith}
 use mathlib.Core.Bool.{false≢true}
 use Rattle.std.proofs.lemmas.Bool.{eqb-true, and_parts}
-use Rattle.fs.specs.Tree.{Path, same, Node, nothing, directory, file, is_nothing, is_directory, Tree, at, without, children, parent, is_dir, vacant, removable, Rooted}
+use Rattle.fs.specs.Tree.{Path, same, Node, nothing, directory, file, is_nothing, is_directory, Tree, at, with_node, without, children, parent, is_dir, vacant, removable, Rooted}
 use Rattle.fs.proofs.Trees.{same_refl, same_eq, cases_same, put_node, at_put_here, at_put_other, is_dir_put, is_dir_root, is_dir_parent}
 
 -- a node counts among its parent's children
@@ -42,6 +42,11 @@ rooted_make p n t v root q h = by (cases_same q p)
     by : ((same q p ≡ true) × (q ≡ p)) ⊎ ((same q p ≡ false) × (q ≢ p)) → is_dir (put_node p n t) (parent q) ≡ true
     by (inl c) = ap (λ z. is_dir (put_node p n t) (parent z)) c.1 ∙ is_dir_parent p n t ∙ parts.0
     by (inr c) = above (root q (sym (ap is_nothing (at_put_other p n t q c.1)) ∙ h)) (cases_same (parent q) p)
+
+pub rooted_with : (p : Path) (n : Node) (t : Tree) → is_nothing n ≡ false → vacant t p ≡ true → Rooted t → Rooted (with_node p n t)
+rooted_with p nothing t h v r = absurd (true≢false h)
+rooted_with p directory t h v r = rooted_make p directory t v r
+rooted_with p (file c) t h v r = rooted_make p (file c) t v r
 
 -- a node without children gone
 pub rooted_remove : (p : Path) (t : Tree) → removable (at t p) (children t p) ≡ true → Rooted t → Rooted (without p t)

@@ -16,193 +16,139 @@ ghost use Rattle.fs.specs.Trace.{ChangedByMarker, Traced};
 ghost use Rattle.fs.specs.Tree.{EqualTrees};
 
 // Two sorted trees that give every path the same are the same value.
-pub fn equal_trees() -> u8
+pub fn equal_trees()
     ensures { EqualTrees }
-{
-    0
-}
+{}
 
 // A change is refused by the first of its grounds that stands, and taken where none does.
-pub fn refused_by_first_ground() -> u8
+pub fn refused_by_first_ground()
     ensures { RefusedByFirstGround }
-{
-    0
-}
+{}
 
 // A taken change alters its one path, and costs one of the allowance.
-pub fn alters_one_path() -> u8
+pub fn alters_one_path()
     ensures { AltersOnePath }
-{
-    0
-}
+{}
 
 // Any two permitted orders of an accepted manifest, on any tree, both fail, or both give the same tree,
 // the same count of changes and the same due services.
-pub fn order_is_free() -> u8
+pub fn order_is_free()
     ensures { OrderIsFree }
-{
-    0
-}
+{}
 
 // Where a permitted beginning of an accepted manifest fails, every permitted order of it fails.
-pub fn fails_early() -> u8
+pub fn fails_early()
     ensures { FailsEarly }
-{
-    0
-}
+{}
 
 // Where no walk along the edges is a circle, every permitted beginning goes on to a permitted order.
-pub fn completes() -> u8
+pub fn completes()
     ensures { Completes }
-{
-    0
-}
+{}
 
 // An accepted manifest has a permitted order.
-pub fn has_an_order() -> u8
+pub fn has_an_order()
     ensures { HasAnOrder }
-{
-    0
-}
+{}
 
 // From the tree to which a steady manifest evaluates, every permitted order succeeds, gives that tree again,
 // counts no change, leaves each resource unchanged, and no service is due.
-pub fn steady_rests() -> u8
+pub fn steady_rests()
     ensures { SteadyRests }
-{
-    0
-}
+{}
 
 // After each single change of an evaluation, begun or whole, the tree has at most the nodes at its start and the need.
-pub fn room() -> u8
+pub fn room()
     ensures { Room }
-{
-    0
-}
+{}
 
 // No resource makes more changes than its share of the bill, whether it succeeds or fails.
-pub fn within_share() -> u8
+pub fn within_share()
     ensures { WithinShare }
-{
-    0
-}
+{}
 
 // No evaluation, begun or whole, makes more changes than the bill, whether it succeeds or fails.
-pub fn within_bill() -> u8
+pub fn within_bill()
     ensures { WithinBill }
-{
-    0
-}
+{}
 
 // At most 32 resources, at most 8 of them packages, of at most 16 entries each: the bill is at most 320.
-pub fn bill_fits() -> u8
+pub fn bill_fits()
     ensures { BillFits }
-{
-    0
-}
+{}
 
 // A rig with free nodes for the need and allowance for the changes takes all of an evaluation, and ends with its tree.
-pub fn enough() -> u8
+pub fn enough()
     ensures { Enough }
-{
-    0
-}
+{}
 
 // What a rig takes in full is what the evaluation says, at one of the allowance for each change.
-pub fn faithful() -> u8
+pub fn faithful()
     ensures { Faithful }
-{
-    0
-}
+{}
 
 // Where a rig refuses, the evaluation fails, or the rig wants a free node or allowance.
-pub fn refuses() -> u8
+pub fn refuses()
     ensures { Refuses }
-{
-    0
-}
+{}
 
 // With free nodes for the need and allowance for the bill, a rig refuses nothing for want of either.
-pub fn never_short() -> u8
+pub fn never_short()
     ensures { NeverShort }
-{
-    0
-}
+{}
 
 // After a start that is not refused, the limits of a rig take no part: what evaluates is taken, and what is refused
 // fails without limits too.
-pub fn start_suffices() -> u8
+pub fn start_suffices()
     ensures { StartSuffices }
-{
-    0
-}
+{}
 
 // A sorted tree whose nodes all have directories as parents stays one.
-pub fn stays_sound() -> u8
+pub fn stays_sound()
     ensures { StaysSound }
-{
-    0
-}
+{}
 
 // The trace of an evaluation is allowed change by change, has the changes that are counted, and makes its tree.
-pub fn traced() -> u8
+pub fn traced()
     ensures { Traced }
-{
-    0
-}
+{}
 
 // A package that succeeds is changed exactly where it made its marker.
-pub fn changed_by_marker() -> u8
+pub fn changed_by_marker()
     ensures { ChangedByMarker }
-{
-    0
-}
+{}
 
 // Entries at distinct paths, none of them `/pkg` or below it, make a package whose steps are all at distinct paths.
-pub fn properly_packed() -> u8
+pub fn properly_packed()
     ensures { ProperlyPacked }
-{
-    0
-}
+{}
 
 // No circle and no clash is found exactly in an accepted manifest.
-pub fn accepts() -> u8
+pub fn accepts()
     ensures { Accepts }
-{
-    0
-}
+{}
 
 // The circle that is found is given by the smallest of all numbers on a circle.
-pub fn circle_is_least() -> u8
+pub fn circle_is_least()
     ensures { CircleIsLeast }
-{
-    0
-}
+{}
 
 // The clash that is found is between unordered resources, and the least such pair.
-pub fn clash_is_least() -> u8
+pub fn clash_is_least()
     ensures { ClashIsLeast }
-{
-    0
-}
+{}
 
 // The test for a steady manifest passes exactly where it is steady.
-pub fn steady_is_tested() -> u8
+pub fn steady_is_tested()
     ensures { SteadyIsTested }
-{
-    0
-}
+{}
 
 // Each verdict is true of its manifest.
-pub fn judged() -> u8
+pub fn judged()
     ensures { Judged }
-{
-    0
-}
+{}
 
 // The eight samples come out as they should.
-pub fn samples() -> u8
+pub fn samples()
     ensures { Samples }
-{
-    0
-}
+{}
