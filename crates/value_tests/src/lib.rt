@@ -3,35 +3,19 @@
 
 #[cfg(test)]
 mod tests {
-    use std::cmp::Ordering;
+    use faults::Numbered;
     use std::test::Fail;
+    use values::text::{Rule, Text};
     use values::{Content, Name, Path, ValueFault};
 
     // A taken value that has other bytes than it was given.
     const ALTERED: u8 = 255;
 
-    fn taken(held: &[u8], given: &[u8]) -> u8 {
-        if held == given { 0 } else { ALTERED }
-    }
-
     // 0 for a value with the bytes that it was given, or the number of its refusal.
-    fn path_case(text: &str) -> u8 {
-        match Path::parse(text.as_bytes()) {
-            Ok(p) => taken(p.as_bytes(), text.as_bytes()),
-            Err(fault) => fault.number(),
-        }
-    }
-
-    fn name_case(text: &str) -> u8 {
-        match Name::parse(text.as_bytes()) {
-            Ok(n) => taken(n.as_bytes(), text.as_bytes()),
-            Err(fault) => fault.number(),
-        }
-    }
-
-    fn content_case(bytes: &[u8]) -> u8 {
-        match Content::parse(bytes) {
-            Ok(c) => taken(c.as_bytes(), bytes),
+    fn case<R: Rule<N>, const N: usize>(read: Result<Text<R, N>, ValueFault>, given: &[u8]) -> u8 {
+        match read {
+            Ok(text) if text.as_bytes() == given => 0,
+            Ok(_) => ALTERED,
             Err(fault) => fault.number(),
         }
     }
@@ -72,7 +56,8 @@ mod tests {
             ("/a/b/c/d/e/f/g/h/i/j/k/l/m/n/o/p/q/r/s/t/u/v/w/x/", 1),
         ];
         for (text, number) in cases {
-            assert_eq!(rt; path_case(text), number, "{}", text);
+            let given = text.as_bytes();
+            assert_eq!(rt; case(Path::try_from(given), given), number, "{}", text);
         }
     }
 
@@ -93,26 +78,36 @@ mod tests {
             ("0123456789abcdefg", 1),
         ];
         for (text, number) in cases {
-            assert_eq!(rt; name_case(text), number, "{}", text);
+            let given = text.as_bytes();
+            assert_eq!(rt; case(Name::try_from(given), given), number, "{}", text);
         }
     }
 
     #[test]
     fn contents(rt: HostRuntime) -> Result<(), Fail> {
         let bytes = [0xffu8; 65];
-        assert_eq!(rt; content_case(&bytes[0..0]), 0);
-        assert_eq!(rt; content_case(&bytes[0..1]), 0);
-        assert_eq!(rt; content_case(&bytes[0..64]), 0);
-        assert_eq!(rt; content_case(&bytes[0..65]), 2);
-        let (x, y) = (Content::parse(b"a")?, Content::parse(b"ab")?);
+        assert_eq!(rt; case(Content::try_from(&bytes[0..0]), &bytes[0..0]), 0);
+        assert_eq!(rt; case(Content::try_from(&bytes[0..1]), &bytes[0..1]), 0);
+        assert_eq!(rt; case(Content::try_from(&bytes[0..64]), &bytes[0..64]), 0);
+        assert_eq!(rt; case(Content::try_from(&bytes[0..65]), &bytes[0..65]), 2);
+        let (x, y) = (
+            Content::try_from(b"a".as_slice())?,
+            Content::try_from(b"ab".as_slice())?,
+        );
         assert!(rt; x == x && !(x == y));
         Ok(())
     }
 
     #[test]
     fn parents(rt: HostRuntime) -> Result<(), Fail> {
-        let (a, b) = (Path::parse(b"/a")?, Path::parse(b"/a/b")?);
-        let (c, near) = (Path::parse(b"/a/b/c")?, Path::parse(b"/ab")?);
+        let (a, b) = (
+            Path::try_from(b"/a".as_slice())?,
+            Path::try_from(b"/a/b".as_slice())?,
+        );
+        let (c, near) = (
+            Path::try_from(b"/a/b/c".as_slice())?,
+            Path::try_from(b"/ab".as_slice())?,
+        );
         assert!(rt; a.parent().is_none());
         let Some(over_b) = b.parent() else {
             return Err(Fail::new("/a/b has no parent"));
@@ -133,7 +128,7 @@ mod tests {
         let rising = ["/a", "/a-", "/a.", "/a/b", "/a0", "/aa", "/b"];
         for (i, x) in rising.iter().enumerate() {
             for (j, y) in rising.iter().enumerate() {
-                let (p, q) = (Path::parse(x.as_bytes())?, Path::parse(y.as_bytes())?);
+                let (p, q) = (Path::try_from(x.as_bytes())?, Path::try_from(y.as_bytes())?);
                 assert!(rt; p.cmp(&q).is_lt() == (i < j), "{}", *x);
                 assert!(rt; (p == q) == (i == j), "{}", *x);
                 assert!(rt; (p < q) == (i < j), "{}", *y);
@@ -144,7 +139,10 @@ mod tests {
 
     #[test]
     fn equal_names(rt: HostRuntime) -> Result<(), Fail> {
-        let (x, y) = (Name::parse(b"fx")?, Name::parse(b"fy")?);
+        let (x, y) = (
+            Name::try_from(b"fx".as_slice())?,
+            Name::try_from(b"fy".as_slice())?,
+        );
         assert!(rt; x == x && !(x == y));
         Ok(())
     }

@@ -1,9 +1,10 @@
 -- The parent of a path is a path, or the root. Assumes nothing.
-use Rattle.std.proofs.Common.{◌≡◌, ℕ, suc, ◌-◌, ◌≤◌, Bool, true, false, cond, not, eqb, leb, List, [], ◌∷◌, ◌++◌, length, get_or, drop, sym, refl, ap, ◌∙◌, ⊎_elim, arith}
-use Rattle.std.proofs.lemmas.Bool.{cases_Bool, cond-true, cond-false, and_parts, and_from, or_cases, both_ways, leb-true, le-leb, eqb-true, eq-eqb, ne_eqb, not_from_false, false≢true}
+use Rattle.std.proofs.Common.{◌≡◌, ℕ, suc, ◌-◌, ◌≤◌, Bool, true, false, cond, eqb, List, [], ◌∷◌, ◌++◌, length, get_or, sym, refl, ap, ◌∙◌, ⊎_elim, arith, rules}
+use Rattle.std.proofs.lemmas.Bool.{cases_Bool, cond-true, cond-false, and_parts, and_from, or_cases, both_ways, eqb-true, eq-eqb, false≢true}
 use Rattle.fs.specs.Tree.{slashed, parent}
 use Rattle.values.specs.Rules.{all, is_name, parts_from, components, is_path}
-use Rattle.values.proofs.Scan.{row, row_parts}
+use Rattle.values.proofs.Scan.{path_rest}
+use Rattle.values.specs.Fits.{path_fits}
 
 pub parent_short : (bs : List ℕ) → length (parent bs) ≤ length bs
 parent_short [] = omega arith
@@ -57,20 +58,17 @@ made_path [] short a = absurd (false≢true a)
 made_path (b ∷ bs) short a =
     let s : List ℕ = 47 ∷ b ∷ bs in
     let end : length s - 1 ≡ suc (length bs) = omega arith in
-    row (leb 2 (length s)) (leb (length s) 48) (eqb (get_or s 0 0) 47) (not (eqb (get_or s (length s - 1) 0) 47)) (all is_name (components (drop 1 s)))
-    (le-leb 2 (length s) (omega arith)) (le-leb (length s) 48 (omega arith)) refl
-    (not_from_false (eqb (get_or s (length s - 1) 0) 47) (ne_eqb (get_or s (length s - 1) 0) 47 (λ e. last_byte [] b bs a (ap (λ k. get_or s k 0) (sym end) ∙ e))))
-    ∙ a
+    path_rest s (omega arith) (omega arith) refl (λ e. last_byte [] b bs a (ap (λ k. get_or s k 0) (sym end) ∙ e)) ∙ a
 
 pub parent_is_path : (s : List ℕ) → is_path s ≡ true → (length (parent s) ≡ 0 → ⊥) → is_path (parent s) ≡ true
 parent_is_path [] h some = absurd (some refl)
 parent_is_path (b ∷ bs) h some =
-    let p = row_parts (leb 2 (length (b ∷ bs))) (leb (length (b ∷ bs)) 48) (eqb b 47) (not (eqb (get_or (b ∷ bs) (length (b ∷ bs) - 1) 0) 47)) (all is_name (components bs)) h in
-    let short : length (b ∷ bs) ≤ 48 = leb-true (length (b ∷ bs)) 48 p.1 in
-    let first : b ≡ 47 = eqb-true b 47 p.2 in
+    let short = path_fits (b ∷ bs) h in
+    let first : b ≡ 47 = search (rules, eqb-true) in
+    let named : all is_name (components bs) ≡ true = search rules in
     ⊎_elim
     (λ more.
     let up = cond-true (slashed bs) (b ∷ parent bs) [] more in
-    ap is_path (up ∙ ap (λ x. x ∷ parent bs) first) ∙ made_path (parent bs) (omega (arith, parent_short bs)) (parent_parts is_name [] bs more p.4))
+    ap is_path (up ∙ ap (λ x. x ∷ parent bs) first) ∙ made_path (parent bs) (omega (arith, parent_short bs)) (parent_parts is_name [] bs more named))
     (λ none. absurd (some (ap length (cond-false (slashed bs) (b ∷ parent bs) [] none))))
     (cases_Bool (slashed bs))

@@ -1,11 +1,10 @@
 -- A path is names, each behind a slash: the parts between its slashes spell it again, and names that are spelled are its parts. Assumes nothing.
-use Rattle.std.proofs.Common.{◌≡◌, ℕ, suc, ◌-◌, ◌≤◌, Bool, true, false, cond, not, eqb, leb, List, [], ◌∷◌, ◌++◌, length, get_or, codes, sym, refl, ap, ◌∙◌, ⊎_elim, arith}
+use Rattle.std.proofs.Common.{◌≡◌, ℕ, suc, ◌≤◌, Bool, true, false, cond, eqb, List, [], ◌∷◌, ◌++◌, length, sym, refl, ap, ◌∙◌, ⊎_elim, arith, rules}
 use Rattle.std.proofs.lemmas.List.{append-nil, append_assoc}
-use Rattle.std.proofs.lemmas.Bool.{cases_Bool, and_parts, leb-true, eqb-true, false≢true}
-use Rattle.fs.specs.Tree.{same}
+use Rattle.std.proofs.lemmas.Bool.{cases_Bool, and_parts, eqb-true, false≢true}
 use Rattle.values.specs.Rules.{all, name_byte, is_name, parts_from, components, is_path, spelled, Spells, PathsAreNames}
 use Rattle.values.proofs.Parents.{made_path}
-use Rattle.values.proofs.Scan.{row_parts}
+use Rattle.values.specs.Fits.{path_fits}
 
 -- the parts spell the bytes again
 spelled_parts : (part bs : List ℕ) → spelled (parts_from part bs) ≡ 47 ∷ (part ++ bs)
@@ -37,17 +36,15 @@ name_bytes rest cs end part (b ∷ bs) a =
     ∙ name_bytes rest cs end (part ++ b ∷ []) bs k.1
     ∙ ap (λ x. x ∷ cs) (append_assoc part (b ∷ []) bs)
 
-pub name_parts : (c : List ℕ) → is_name c ≡ true → (length c ≤ 16) × (all name_byte c ≡ true)
-name_parts c h =
-    let p = row_parts (leb 1 (length c)) (leb (length c) 16) (not (same c (codes "."))) (not (same c (codes ".."))) (all name_byte c) h in
-    (leb-true (length c) 16 p.1, p.4)
+name_bytes_pass : (c : List ℕ) → is_name c ≡ true → all name_byte c ≡ true
+name_bytes_pass c h = search rules
 
 -- what stands behind a part: no name more, or names behind their slashes
 behind : (cs : List (List ℕ)) → all is_name cs ≡ true → (part : List ℕ) → parts_from part (spelled cs) ≡ part ∷ cs
 behind [] a part = refl
 behind (c ∷ cs) a part =
     let k = and_parts (is_name c) (all is_name cs) a in
-    ap (λ x. part ∷ x) (name_bytes (spelled cs) cs (behind cs k.1) [] c (name_parts c k.0).1)
+    ap (λ x. part ∷ x) (name_bytes (spelled cs) cs (behind cs k.1) [] c (name_bytes_pass c k.0))
 
 pub paths_are_names : PathsAreNames
 paths_are_names bs = (there bs, back bs)
@@ -55,14 +52,15 @@ paths_are_names bs = (there bs, back bs)
     there : (s : List ℕ) → is_path s ≡ true → (cs : List (List ℕ)) × Spells s cs
     there [] h = absurd (false≢true h)
     there (b ∷ xs) h =
-        let p = row_parts (leb 2 (length (b ∷ xs))) (leb (length (b ∷ xs)) 48) (eqb b 47) (not (eqb (get_or (b ∷ xs) (length (b ∷ xs) - 1) 0) 47)) (all is_name (components xs)) h in
-        (components xs, record { bytes = ap (λ x. x ∷ xs) (eqb-true b 47 p.2) ∙ sym (spelled_parts [] xs); some = some_part [] xs; short = leb-true (length (b ∷ xs)) 48 p.1; names = p.4 })
+        let first : b ≡ 47 = search (rules, eqb-true) in
+        let named : all is_name (components xs) ≡ true = search rules in
+        (components xs, record { bytes = ap (λ x. x ∷ xs) first ∙ sym (spelled_parts [] xs); some = some_part [] xs; short = path_fits (b ∷ xs) h; names = named })
 
     one : (s : List ℕ) (cs : List (List ℕ)) → Spells s cs → is_path s ≡ true
     one s [] k = absurd (let some = k.some in omega arith)
     one s (c ∷ cs) k =
         let n = and_parts (is_name c) (all is_name cs) k.names in
-        let parts : components (c ++ spelled cs) ≡ c ∷ cs = name_bytes (spelled cs) cs (behind cs n.1) [] c (name_parts c n.0).1 in
+        let parts : components (c ++ spelled cs) ≡ c ∷ cs = name_bytes (spelled cs) cs (behind cs n.1) [] c (name_bytes_pass c n.0) in
         let long : length s ≡ suc (length (c ++ spelled cs)) = ap length k.bytes in
         let short = k.short in
         ap is_path k.bytes ∙ made_path (c ++ spelled cs) (omega arith) (ap (all is_name) parts ∙ k.names)

@@ -14,9 +14,13 @@ use Rattle.fs.proofs.Trees.{same_eq, same_refl}
 pub same_decides : (a b : List ℕ) → Decides (same a b) (a ≡ b)
 same_decides a b = (same_eq a b, λ e. ap (same a) (sym e) ∙ same_refl a)
 
+-- what `==` on bytes answers
+pub same_is : (a b : List ℕ) → same a b ≡ bytes_eq a b
+same_is a b = same_from_decides (same a b) (bytes_eq a b) (same_decides a b) (bytes_eq-Decides a b)
+
 -- equal texts are those that byte order does not tell apart
 pub same_ties : (a b : List ℕ) → same a b ≡ is_eq (slice_cmp nat_cmp a b)
-same_ties a b = same_from_decides (same a b) (bytes_eq a b) (same_decides a b) (bytes_eq-Decides a b) ∙ sym (is_eq-slice_cmp a b)
+same_ties a b = same_is a b ∙ sym (is_eq-slice_cmp a b)
 
 -- values that are compared by a text
 module _ {K : Type 0} (text : K → List ℕ) where

@@ -1,10 +1,10 @@
 -- Which bytes are a name, a path and a content. Assumes nothing.
 use Rattle.std.specs.Prelude.{◌≡◌, ℕ, ◌-◌, ◌≤◌, Bool, true, cond, not, ◌&&◌, ◌||◌, ◌↔◌, List, [], ◌∷◌, ◌++◌, length, drop, codes, ◌==◌, nat_le, slice_index}
+use Rattle.std.specs.List.{list_all}
 use Rattle.fs.specs.Tree.{same}
 
 abbrev pub all : {X : Type 0} → (X → Bool) → List X → Bool
-all f [] = true
-all f (x ∷ xs) = f x && all f xs
+all = list_all
 
 -- a-z 0-9 . _ -
 abbrev pub name_byte : ℕ → Bool

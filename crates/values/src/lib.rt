@@ -3,12 +3,12 @@
 
 ghost use Rattle.values.specs.Rules.{PathsAreNames};
 
-mod bytes;
 pub mod content;
 pub mod fault;
 pub mod name;
 pub mod path;
 mod rules;
+pub mod text;
 
 pub use content::Content;
 pub use fault::ValueFault;
@@ -16,8 +16,6 @@ pub use name::Name;
 pub use path::Path;
 
 // The rule of a path, as its users put it: names, each behind a slash.
-pub fn paths_are_names() -> u8
+pub fn paths_are_names()
     ensures { PathsAreNames }
-{
-    0
-}
+{}
