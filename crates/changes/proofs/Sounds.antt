@@ -6,11 +6,12 @@ use Rattle.values.specs.Rules.{all, is_path, is_content}
 use Rattle.values.specs.Texts.{path_text, content_text}
 use Rattle.fs.specs.Change.{Change, made_dir, made_file, removed, change, altered, leaves, makes, call, calls}
 use Rattle.fs.specs.Rig.{Rig, taken}
-use Rattle.fs.specs.Tree.{Path, Node, directory, file, Tree, same, before, with_node, without, Sorted}
+use Rattle.fs.specs.Tree.{Path, Node, directory, file, Tree, same, without, Sorted}
 use Rattle.fs.proofs.Calls.{Fits, taken_eq, taken_fits, calls_parts, sorted_change, rooted_change}
 use Rattle.changes.specs.Changes.{change_of}
 use Rattle.changes.specs.Counts.{counted, births, deaths}
 use Rattle.host.specs.Sound.{Sound, ruled}
+use Rattle.host.proofs.Storing.{all_with}
 use Rattle.changes.specs.declared.change.Change as held
 use Rattle.changes.specs.declared.change.Change.TheVariants.{Mkdir, Creat, Rm}
 use Rattle.changes.proofs.Counts.{length_counted, counted_change}
@@ -23,15 +24,6 @@ pub change_ruled : (c : held.Change) → Ruled (change_of c)
 change_ruled (Mkdir p) m = and_from (is_path (path_text p)) true p.ruled refl
 change_ruled (Creat p x) m = and_from (is_path (path_text p)) (is_content (content_text x)) p.ruled x.ruled
 change_ruled (Rm p) m = absurd (true≢false (sym m))
-
-all_with : (f : Path × Node → Bool) (p : Path) (n : Node) (t : Tree) → f (p, n) ≡ true → all f t ≡ true → all f (with_node p n t) ≡ true
-all_with f p n [] h a = and_from (f (p, n)) true h refl
-all_with f p n (e ∷ t) h a = let k = and_parts (f e) (all f t) a in by (same p e.0) (before p e.0) k.0 k.1 (all_with f p n t h k.1)
-  where
-    by : (b c : Bool) → f e ≡ true → all f t ≡ true → all f (with_node p n t) ≡ true → all f (cond b ((p, n) ∷ t) (cond c ((p, n) ∷ (e ∷ t)) (e ∷ with_node p n t))) ≡ true
-    by true c x y ih = and_from (f (p, n)) (all f t) h y
-    by false true x y ih = and_from (f (p, n)) (all f (e ∷ t)) h a
-    by false false x y ih = and_from (f e) (all f (with_node p n t)) x ih
 
 all_without : (f : Path × Node → Bool) (p : Path) (t : Tree) → all f t ≡ true → all f (without p t) ≡ true
 all_without f p [] a = refl

@@ -1,7 +1,7 @@
 -- The changes that a log holds. Assumes nothing.
 use Rattle.std.specs.Prelude.{Bool, true, List, map, Some, None, vec_items, Option}
 use Rattle.values.specs.Texts.{path_text}
-use Rattle.values.specs.declared.path.Path as value
+use Rattle.values.specs.Texts as value
 use Rattle.fs.specs.Change.{Change}
 use Rattle.fs.specs.Tree.{Path, same, parent}
 use Rattle.changes.specs.Changes.{change_of}

@@ -5,4 +5,4 @@ pub mod change;
 pub mod log;
 
 pub use change::Change;
-pub use log::Log;
+pub use log::{HELD_MAX, Log, LogFull};

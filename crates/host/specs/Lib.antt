@@ -4,3 +4,4 @@ pub mod Stores
 pub mod Sound
 pub mod Called
 pub mod Opening
+pub mod Checks

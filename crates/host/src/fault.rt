@@ -1,35 +1,28 @@
-ghost use Rattle.std.specs.Prelude.{◌≡◌};
 ghost use Rattle.host.specs.Faults.{host_fault_number};
 
-// Why a change was refused.
+use faults::Numbered;
+
+// Why a change was refused, each ground by its number.
 #[derive(Clone, Copy, PartialEq, Eq, Debug)]
 pub enum HostFault {
     // The parent is not a directory.
-    NoParent,
+    NoParent = 35,
     // The path is not nothing.
-    Exists,
+    Exists = 36,
     // The path is nothing.
-    Missing,
+    Missing = 37,
     // The directory has children.
-    HasChildren,
+    HasChildren = 38,
     // No node is free.
-    Full,
+    Full = 39,
     // The allowance is 0.
-    Exhausted,
+    Exhausted = 40,
 }
 
-impl HostFault {
-    // The number of the refusal.
-    pub fn number(self) -> u8
-        ensures { result ≡ host_fault_number self }
-    {
-        match self {
-            HostFault::NoParent => 35,
-            HostFault::Exists => 36,
-            HostFault::Missing => 37,
-            HostFault::HasChildren => 38,
-            HostFault::Full => 39,
-            HostFault::Exhausted => 40,
-        }
+impl Numbered for HostFault {
+    ghost number_of = { host_fault_number };
+
+    fn number(self) -> u8 {
+        self as u8
     }
 }

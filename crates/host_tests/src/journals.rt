@@ -1,6 +1,6 @@
 // Scenes of a journal over any host.
 use crate::scenes;
-use host::Host;
+use host::{Host, Inspect};
 use journal::Journal;
 use std::process::Abort;
 use std::test::*;
@@ -19,7 +19,7 @@ pub(crate) fn most_held<B: Host + Drop>(
     host: B,
 ) -> Result<(), Fail> {
     let mut journal = opened(rt, host)?;
-    let p = Path::parse(b"/a")?;
+    let p = Path::try_from(b"/a".as_slice())?;
     for i in 0..192 {
         assert_eq!(rt; scenes::number(journal.mkdir(&p)), 0, "{}", i);
         assert_eq!(rt; scenes::number(journal.rm(&p)), 0, "{}", i);
@@ -67,7 +67,12 @@ pub(crate) fn ends<B: Host + Drop>(rt: &(impl Abort + AllocGlobal), host: B) -> 
     assert_eq!(rt; scenes::change(&mut journal, "creat", "/a")?, 0);
     journal.commit();
     let below = journal.into_below();
-    assert!(rt; below.holds(&Path::parse(b"/a")?, &Content::parse(b"hi")?));
+    assert!(rt;
+        below.holds(
+            &Path::try_from(b"/a".as_slice())?,
+            &Content::try_from(b"hi".as_slice())?
+        )
+    );
     assert_eq!(rt; scenes::left(&below), (3, 17));
     Ok(())
 }

@@ -11,6 +11,7 @@ mod tests {
     use crate::{journals, scenes};
     use host::{Limits, OpenFault};
     use linked_host::LinkedHost;
+    use std::alloc::Global;
     use std::test::*;
     use table_host::TableHost;
 
@@ -31,8 +32,15 @@ mod tests {
         Ok(())
     }
 
-    fn table(rt: &HostRuntime, capacity: u16, allowance: u16) -> Result<TableHost, OpenFault> {
-        TableHost::open(
+    fn opened<B, F: FnOnce(Global, Limits) -> Result<B, OpenFault>>(
+        rt: &HostRuntime,
+        make: F,
+        capacity: u16,
+        allowance: u16,
+    ) -> Result<B, OpenFault>
+        requires { F.IsAlwaysCallable make }
+    {
+        make(
             rt.alloc(),
             Limits {
                 capacity,
@@ -41,14 +49,12 @@ mod tests {
         )
     }
 
+    fn table(rt: &HostRuntime, capacity: u16, allowance: u16) -> Result<TableHost, OpenFault> {
+        opened(rt, TableHost::open, capacity, allowance)
+    }
+
     fn linked(rt: &HostRuntime, capacity: u16, allowance: u16) -> Result<LinkedHost, OpenFault> {
-        LinkedHost::open(
-            rt.alloc(),
-            Limits {
-                capacity,
-                allowance,
-            },
-        )
+        opened(rt, LinkedHost::open, capacity, allowance)
     }
 
     #[test]

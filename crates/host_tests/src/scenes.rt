@@ -1,5 +1,6 @@
 // Scenes that end alike on every host.
-use host::{Host, HostFault, Kind};
+use faults::Numbered;
+use host::{Host, HostFault, Inspect, Kind};
 use std::process::Abort;
 use std::test::*;
 use values::{Content, Path, ValueFault};
@@ -14,12 +15,12 @@ pub(crate) fn number(r: Result<(), HostFault>) -> u8 {
 
 // A change by its name: mkdir, rm, touch for an empty file, and creat for a file with content.
 pub(crate) fn change<B: Host>(host: &mut B, call: &str, text: &str) -> Result<u8, ValueFault> {
-    let p = Path::parse(text.as_bytes())?;
+    let p = Path::try_from(text.as_bytes())?;
     Ok(match call {
         "mkdir" => number(host.mkdir(&p)),
         "rm" => number(host.rm(&p)),
-        "touch" => number(host.creat(&p, &Content::parse(b"")?)),
-        _ => number(host.creat(&p, &Content::parse(b"hi")?)),
+        "touch" => number(host.creat(&p, &Content::try_from(b"".as_slice())?)),
+        _ => number(host.creat(&p, &Content::try_from(b"hi".as_slice())?)),
     })
 }
 
@@ -90,7 +91,7 @@ pub(crate) fn refusals<B: Host>(rt: &impl Abort, host: &mut B) -> Result<(), Fai
 pub(crate) fn looks<B: Host>(rt: &impl Abort, host: &B, stands: &str) -> Result<(), Fail> {
     for line in stands.lines() {
         let (text, kind) = line.split_once(' ').unwrap_or((line, ""));
-        let seen = match host.look(&Path::parse(text.as_bytes())?) {
+        let seen = match host.look(&Path::try_from(text.as_bytes())?) {
             Kind::Nothing => "nothing",
             Kind::Directory => "directory",
             Kind::File => "file",
@@ -115,15 +116,15 @@ pub(crate) fn exhausted<B: Host>(rt: &impl Abort, host: &mut B) -> Result<(), Fa
 fn counts<B: Host>(rt: &impl Abort, host: &B, children: &str) -> Result<(), Fail> {
     for line in children.lines() {
         let (text, n) = line.split_once(' ').unwrap_or((line, ""));
-        let p = Path::parse(text.as_bytes())?;
+        let p = Path::try_from(text.as_bytes())?;
         assert_eq!(rt; host.children(&p), n.parse::<u16>()?, "{}", line);
     }
     Ok(())
 }
 
 fn holds<B: Host>(host: &B, text: &str, content: &str) -> Result<bool, ValueFault> {
-    let p = Path::parse(text.as_bytes())?;
-    Ok(host.holds(&p, &Content::parse(content.as_bytes())?))
+    let p = Path::try_from(text.as_bytes())?;
+    Ok(host.holds(&p, &Content::try_from(content.as_bytes())?))
 }
 
 // What the questions answer. Capacity 8, allowance 20.
@@ -143,7 +144,7 @@ pub(crate) fn questions<B: Host>(rt: &impl Abort, host: &mut B) -> Result<(), Fa
 fn numbered(i: u16) -> Result<Path, ValueFault> {
     let zero = b'0' as u16;
     let digits = [zero + i / 100 % 10, zero + i / 10 % 10, zero + i % 10];
-    Path::parse(&[b'/', digits[0] as u8, digits[1] as u8, digits[2] as u8])
+    Path::try_from([b'/', digits[0] as u8, digits[1] as u8, digits[2] as u8].as_slice())
 }
 
 // A full host refuses, and a removal frees its record for the next creation. Capacity 256.
@@ -186,7 +187,7 @@ pub(crate) fn deep<B: Host>(rt: &impl Abort, host: &mut B) -> Result<(), Fail> {
     for i in 1..25 {
         let end: usize = 2 * i;
         assert!(rt; end <= text.len());
-        let p = Path::parse(&text[0..end])?;
+        let p = Path::try_from(&text[0..end])?;
         assert_eq!(rt; number(host.mkdir(&p)), 0, "{}", i);
         assert_eq!(rt; host.look(&p), Kind::Directory, "{}", i);
     }
@@ -194,7 +195,7 @@ pub(crate) fn deep<B: Host>(rt: &impl Abort, host: &mut B) -> Result<(), Fail> {
     for i in 1..25 {
         let end: usize = 50 - 2 * i;
         assert!(rt; end <= text.len());
-        let p = Path::parse(&text[0..end])?;
+        let p = Path::try_from(&text[0..end])?;
         assert_eq!(rt; host.children(&p), 0, "{}", i);
         assert_eq!(rt; number(host.rm(&p)), 0, "{}", i);
     }
@@ -209,14 +210,14 @@ fn scrambled(x: u32) -> u32 {
 
 fn picked(x: u32) -> Result<Path, ValueFault> {
     let texts = ["/a", "/a/b", "/a/b/c", "/a-b", "/b", "/b/c", "/b/d", "/c"];
-    Path::parse(texts[(x >> 16) as usize % 8].as_bytes())
+    Path::try_from(texts[(x >> 16) as usize % 8].as_bytes())
 }
 
 // One change out of the three, by a number.
 fn any_change<B: Host>(host: &mut B, x: u32, p: &Path) -> Result<u8, ValueFault> {
     Ok(match (x >> 24) % 5 {
         0 | 1 => number(host.mkdir(p)),
-        2 => number(host.creat(p, &Content::parse(b"x")?)),
+        2 => number(host.creat(p, &Content::try_from(b"x".as_slice())?)),
         _ => number(host.rm(p)),
     })
 }

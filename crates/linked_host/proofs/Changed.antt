@@ -4,25 +4,23 @@ use mathlib.Core.Bool.{false≢true}
 use Rattle.std.proofs.lemmas.List.{length-map}
 use Rattle.std.proofs.lemmas.Bool.{and_from, not-true}
 use Rattle.fs.specs.Rig.{Rig, refused, if_allowed, make, remove, remove_node}
-use Rattle.fs.specs.Tree.{Path, Node, Tree, nothing, directory, file, parent, at, with_node, without, children, is_dir, is_nothing, vacant, removable, blocked, Rooted}
-use Rattle.fs.proofs.Rooting.{rooted_make, rooted_remove}
-use Rattle.values.specs.Texts.{path_text, content_text}
+use Rattle.fs.specs.Tree.{Path, Node, Tree, nothing, directory, file, parent, at, with_node, without, children, is_dir, is_nothing, removable, blocked, Rooted}
+use Rattle.fs.proofs.Rooting.{rooted_with, rooted_remove}
+use Rattle.values.specs.Texts.{path_text}
 use Rattle.host.specs.Stores.{node_of}
-use Rattle.host.specs.declared.stored.Stored.{Stored}
-use Rattle.host.specs.declared.stored.Stored.TheVariants.{Directory, File}
+use Rattle.host.proofs.Storing.{some_stored, ruled_stored}
 use Rattle.linked_host.specs.Slots.{tree_from, apart, child_from}
 use Rattle.linked_host.specs.Links.{entry_of, view, views, same_link, linked}
 use Rattle.linked_host.specs.Places.{link_at, HeldIn, Before}
-use Rattle.linked_host.specs.Arenas.{slots_of, entries, slots_linked, root_linked}
-use Rattle.linked_host.specs.Linked.{tree_of}
+use Rattle.linked_host.specs.Arenas.{slots_of, entries, slots_linked, root_linked, Written}
 use Rattle.linked_host.specs.declared.arena.Arena.{Arena}
 use Rattle.linked_host.specs.declared.linked.LinkedHost.{LinkedHost}
 use Rattle.linked_host.specs.declared.record.Record.{Record}
 use Rattle.linked_host.specs.declared.record.Place.{Place}
 use Rattle.linked_host.specs.Rows.{apart_set, some_same, none_some}
 use Rattle.linked_host.specs.Written.{tree_added, tree_gone}
-use Rattle.linked_host.specs.Scans.{child, path_some, ruled_entry, view_at, fit_views, live_within}
-use Rattle.linked_host.specs.Lookups.{rooted_in, bare}
+use Rattle.linked_host.specs.Scans.{child, path_some, view_at, fit_views, live_within}
+use Rattle.linked_host.specs.Lookups.{bare}
 use Rattle.linked_host.proofs.Linking.{AllLinked, all_links}
 use Rattle.linked_host.proofs.Relinking.{headed_from, linked_from}
 use Rattle.linked_host.proofs.Splicing.{all_added, views_added, all_gone, views_gone}
@@ -34,10 +32,6 @@ pub record Kept (root : Option ℕ) (rs : List (Option Record)) : Type 0 where
   pub headed : same_link root (child_from (views rs) [] 0) ≡ true
   pub chained : linked rs ≡ true
 
-rooted_stored : (p : Path) (n : Stored) (t : Tree) → vacant t p ≡ true → Rooted t → Rooted (with_node p (node_of n) t)
-rooted_stored p Directory t v r = rooted_make p directory t v r
-rooted_stored p (File c) t v r = rooted_make p (file (content_text c)) t v r
-
 module _ (root : Option ℕ) (rs : List (Option Record)) (k : Kept root rs) (i : ℕ) (r : Record) (at' : Place) (there : HeldIn rs at') (before : Before (views rs) (parent (path_text r.path)) i at') where
   links : AllLinked root rs
   links = all_links root rs k.headed k.chained
@@ -47,7 +41,7 @@ module _ (root : Option ℕ) (rs : List (Option Record)) (k : Kept root rs) (i :
     within' = omega (arith, length-map rs view)
 
     grown_tree : tree_from (set (views rs) i (Some (entry_of r))) ≡ with_node (path_text r.path) (node_of r.node) (tree_from (views rs))
-    grown_tree = tree_added (views rs) i (entry_of r) (fit_views rs) k.distinct within' (ruled_entry r) (view_at rs i ∙ ap view free) none
+    grown_tree = tree_added (views rs) i (entry_of r) (fit_views rs) k.distinct within' (ruled_stored r.path r.node) (view_at rs i ∙ ap view free) none
 
     childless : (x : ℕ) → child (views rs) (path_text r.path) x ≡ false
     childless = bare (views rs) (fit_views rs) k.distinct k.grounded (path_text r.path) (path_some r.path) none
@@ -65,7 +59,7 @@ module _ (root : Option ℕ) (rs : List (Option Record)) (k : Kept root rs) (i :
         let all = all_added root rs links k.distinct i within r at' there before free first next childless in
         record {
           distinct = ap apart now_views ∙ apart_set (views rs) i (Some (entry_of r)) (fit_views rs) k.distinct (λ q e. ap (at t) (sym (some_same e)) ∙ none);
-          grounded = subst Rooted (sym add_tree) (rooted_stored p r.node t (and_from (is_dir t (parent p)) (is_nothing (at t p)) up (ap is_nothing none)) k.grounded);
+          grounded = subst Rooted (sym add_tree) (rooted_with p (node_of r.node) t (some_stored r.node) (and_from (is_dir t (parent p)) (is_nothing (at t p)) up (ap is_nothing none)) k.grounded);
           headed = headed_from (root_linked at' (Some i) root) (slots_linked at' (Some i) (set rs i (Some r))) all;
           chained = linked_from (root_linked at' (Some i) root) (slots_linked at' (Some i) (set rs i (Some r))) all;
         }
@@ -93,7 +87,7 @@ module _ (root : Option ℕ) (rs : List (Option Record)) (k : Kept root rs) (i :
 -- ---- a host and what a change leaves of it
 
 pub kept_of : (h : LinkedHost) → Kept h.arena.first (slots_of h.arena)
-kept_of h = record { distinct = h.distinct; grounded = rooted_in (tree_of h) h.grounded; headed = h.headed; chained = h.chained }
+kept_of h = record { distinct = h.distinct; grounded = h.grounded; headed = h.headed; chained = h.chained }
 
 -- as many slots, linked, that hold the tree
 pub record Left (h : LinkedHost) (a : Arena) (t : Tree) : Type 0 where
@@ -101,8 +95,8 @@ pub record Left (h : LinkedHost) (a : Arena) (t : Tree) : Type 0 where
   pub kept : Kept a.first (slots_of a)
   pub tree : tree_from (entries a) ≡ t
 
-pub left_as : (h : LinkedHost) (a : Arena) (t : Tree) (root : Option ℕ) (rs : List (Option Record)) → vec_len a.slots ≡ vec_len h.arena.slots → a.first ≡ root → slots_of a ≡ rs → Kept root rs → tree_from (views rs) ≡ t → Left h a t
-left_as h a t root rs len e f k same = record { len = len; kept = subst (λ x. Kept x (slots_of a)) (sym e) (subst (λ y. Kept root y) (sym f) k); tree = ap (λ x. tree_from (views x)) f ∙ same }
+pub left_as : (h : LinkedHost) (a : Arena) (t : Tree) (rs : List (Option Record)) (root : Option ℕ) → Written h.arena a rs root → Kept root rs → tree_from (views rs) ≡ t → Left h a t
+left_as h a t rs root w k same = record { len = w.len; kept = subst (λ x. Kept x (slots_of a)) (sym w.first) (subst (Kept root) (sym w.slots) k); tree = ap (λ x. tree_from (views x)) w.slots ∙ same }
 
 -- ---- the answers of a call, by the tests before it
 

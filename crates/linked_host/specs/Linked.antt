@@ -22,3 +22,9 @@ pub record Removable (h : LinkedHost) (p : Path) (head : Place) (i : ℕ) : Type
   pub here : Stands (entries h.arena) p i
   pub clear : removable (at (tree_of h) p) (children (tree_of h) p) ≡ true
   pub allowed : remove p (rig_of h) ≡ if_allowed (rig_of h) (without p (tree_of h))
+
+-- the host h' is h with the tree t
+pub record Becomes (h h' : LinkedHost) (t : Tree) : Type 0 where
+  pub tree : tree_of h' ≡ t
+  pub capacity : vec_len h'.arena.slots ≡ vec_len h.arena.slots
+  pub allowance : h'.allowance ≡ h.allowance

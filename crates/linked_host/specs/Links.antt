@@ -1,19 +1,13 @@
 -- The links of the records: siblings are linked in the order of their slots. Assumes nothing.
 use Rattle.std.specs.Prelude.{ℕ, zero, suc, ◌+◌, Bool, true, false, ◌&&◌, List, map, length, Some, None, Option, ◌==◌, slice_index_or}
 use Rattle.values.specs.Texts.{path_text}
-use Rattle.fs.specs.Tree.{Node, nothing, parent}
+use Rattle.fs.specs.Tree.{parent}
 use Rattle.host.specs.Stores.{node_of}
-use Rattle.host.specs.declared.stored.Stored.{Stored}
 use Rattle.linked_host.specs.Slots.{Entry, Slots, child_from}
 use Rattle.linked_host.specs.declared.record.Record.{Record}
 
 abbrev pub entry_of : Record → Entry
 entry_of r = (path_text r.path, node_of r.node)
-
--- the node that was found, or nothing
-abbrev pub node_in : Option Stored → Node
-node_in None = nothing
-node_in (Some n) = node_of n
 
 abbrev pub view : Option Record → Option Entry
 view None = None

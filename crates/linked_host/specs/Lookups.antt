@@ -1,9 +1,9 @@
 -- What the tree says of a path by its slot, its parent and its children, and how many slots are free. Assumes nothing.
-use Rattle.std.specs.Prelude.{◌≡◌, ℕ, ◌+◌, ◌-◌, ◌<◌, ◌≤◌, true, false, cond, not, List, [], ◌∷◌, length, get_or, drop, is_some, Some, None, Option, MatchOption, ◌==◌, ◌≢◌, slice_index_or, refl}
+use Rattle.std.specs.Prelude.{◌≡◌, ℕ, zero, suc, ◌+◌, ◌<◌, ◌≤◌, Bool, true, false, cond, not, count_by, List, [], ◌∷◌, length, get_or, is_some, Some, None, Option, MatchOption, ◌==◌, ◌≢◌, slice_index_or, refl}
 use Rattle.std.proofs.Common.{sym, ap, ◌∙◌, ⊎_elim, arith}
-use Rattle.std.proofs.Math.Bool.{Bool-set}
-use Rattle.std.proofs.Math.Logic.{∥∥₁_elim}
-use Rattle.std.proofs.lemmas.List.{length-map, length-drop, at_drop_more, at_drop_all, get_or_read_under}
+use Rattle.std.specs.List.{AllWithin, HoldsAt}
+use Rattle.std.proofs.lemmas.List.{length-map}
+use Rattle.std.proofs.lemmas.List.Sums.{sum_by-cons}
 use Rattle.std.proofs.lemmas.Bool.{and_from, and_right, both_ways, cases_Bool, true≢false, not_from_true, not_from_false, eq-eqb, ne_eqb}
 use Rattle.fs.specs.Tree.{Path, Node, nothing, Tree, slashed, parent, at, children, is_dir, is_directory, is_nothing, blocked, Rooted}
 use Rattle.fs.proofs.Trees.{same_eq}
@@ -12,8 +12,8 @@ use Rattle.values.specs.Rules.{all}
 use Rattle.linked_host.specs.Slots.{Entry, Slots, entry_at, path_of, Stands, tree_from, apart, is_child, child_from}
 use Rattle.linked_host.specs.Links.{entry_of, view, views}
 use Rattle.linked_host.specs.declared.record.Record.{Record}
-use Rattle.linked_host.specs.Rows.{is_none, at_live, at_seen, fit}
-use Rattle.linked_host.specs.Written.{live, weight, children_from}
+use Rattle.linked_host.specs.Rows.{none_some, is_none, at_live, at_seen, fit}
+use Rattle.linked_host.specs.Written.{live, children_from}
 use Rattle.linked_host.specs.Scans.{First, child, to_first, view_at, fit_views, stands_path, Ahead, ahead_is}
 
 -- ---- a path and its parent
@@ -35,13 +35,6 @@ pub dir_at : (t : Tree) (d : Path) (n : Node) → (d ≢ []) → at t d ≡ n �
 dir_at t [] n some e = absurd (some refl)
 dir_at t (b ∷ bs) n some e = ap is_directory e
 
-rooted_prop : (t : Tree) → IsProp (Rooted t)
-rooted_prop t a b = λ i p h. Bool-set (is_dir t (parent p)) true (a p h) (b p h) i
-
--- out of the ghost field
-pub rooted_in : (t : Tree) → ∥ Rooted t ∥₁ → Rooted t
-rooted_in t k = ∥∥₁_elim k (rooted_prop t) (λ r. r)
-
 -- below what is no directory is nothing
 pub fatherless : (t : Tree) (p : Path) → Rooted t → is_dir t (parent p) ≡ false → at t p ≡ nothing
 fatherless t p r n = ⊎_elim (λ k. is_none (at t p) k) (λ k. absurd (both_ways (is_dir t (parent p)) n (r p k))) (cases_Bool (is_nothing (at t p)))
@@ -59,44 +52,43 @@ seen rs p (Some i) s = at_seen (views rs) i p (fit_views rs) s
 
 -- ---- slots that are free
 
-pub none_from : (o : Option Record) → is_some o ≡ false → o ≡ None
-none_from None e = refl
-none_from (Some r) e = absurd (true≢false e)
-
-some_weight : (o : Option Record) → is_some o ≡ true → weight (view o) ≡ 1
-some_weight None e = absurd (true≢false (sym e))
-some_weight (Some r) e = refl
-
-live_more : (es : Slots) (i : ℕ) → i < length es → live (drop i es) ≡ weight (entry_at es i) + live (drop (i + 1) es)
-live_more es i l = at_drop_more live es i None l
-
-module _ (rs : List (Option Record)) (i : ℕ) (o : Option Record) (within : i < length rs) (read : o ≡ slice_index_or rs i o) where
-  within' : i < length (views rs)
-  within' = omega (arith, length-map rs view)
-
-  pub slot_read : get_or rs i None ≡ o
-  slot_read = sym (get_or_read_under rs i (length rs) o None read within refl)
-
-  pub free_more : is_some o ≡ false → live (drop i (views rs)) ≡ live (drop (i + 1) (views rs))
-  free_more e =
-      let k : weight (entry_at (views rs) i) ≡ 0 = ap weight (view_at rs i ∙ ap view (slot_read ∙ none_from o e)) in
-      omega (arith, live_more (views rs) i within')
-
-  pub live_one : is_some o ≡ true → live (drop i (views rs)) ≡ 1 + live (drop (i + 1) (views rs))
-  live_one e =
-      let k : weight (entry_at (views rs) i) ≡ 1 = ap weight (view_at rs i ∙ ap view slot_read) ∙ some_weight o e in
-      omega (arith, live_more (views rs) i within')
-
 pub live_few : (es : Slots) → live es ≤ length es
 live_few [] = omega arith
 live_few (None ∷ es) = omega (arith, live_few es)
 live_few (Some e ∷ es) = omega (arith, live_few es)
 
-pub live_rest : (rs : List (Option Record)) (i : ℕ) → live (drop i (views rs)) ≤ length rs - i
-live_rest rs i = omega (arith, live_few (drop i (views rs)), length-drop i (views rs), length-map rs view)
+abbrev pub is_free : Option Record → Bool
+is_free o = not (is_some o)
 
-pub live_end : (rs : List (Option Record)) (i : ℕ) → length rs ≤ i → live (drop i (views rs)) ≡ 0
-live_end rs i h = at_drop_all live (views rs) i (omega (arith, length-map rs view))
+pub free_or_live : (rs : List (Option Record)) → count_by is_free rs + live (views rs) ≡ length rs
+free_or_live [] = omega arith
+free_or_live (None ∷ rs) = omega (arith, free_or_live rs, sum_by-cons (λ o. cond (is_free o) 1 0) None rs)
+free_or_live (Some r ∷ rs) = omega (arith, free_or_live rs, sum_by-cons (λ o. cond (is_free o) 1 0) (Some r) rs)
+
+all_live : (rs : List (Option Record)) → AllWithin (λ o. is_some o ≡ true) rs 0 (length rs) → live (views rs) ≡ length rs
+all_live [] a = omega arith
+all_live (None ∷ rs) a = absurd (true≢false (sym (a 0 None (omega arith) (omega arith))))
+all_live (Some r ∷ rs) a = let rest = all_live rs (λ k d l m. a (suc k) d (omega arith) (omega arith)) in omega arith
+
+none_from : (o : Option Record) → is_some o ≡ false → o ≡ None
+none_from None e = refl
+none_from (Some r) e = absurd (true≢false e)
+
+one_free : (rs : List (Option Record)) (i : ℕ) → i < length rs → get_or rs i None ≡ None → live (views rs) < length rs
+one_free [] i l e = absurd (omega arith)
+one_free (None ∷ rs) zero l e = omega (arith, live_few (views rs), length-map rs view)
+one_free (Some r ∷ rs) zero l e = absurd (none_some (sym e))
+one_free (None ∷ rs) (suc i) l e = let rest = one_free rs i (omega arith) e in omega arith
+one_free (Some r ∷ rs) (suc i) l e = let rest = one_free rs i (omega arith) e in omega arith
+
+-- what a search of the first free slot says of the number of nodes
+pub first_free : (rs : List (Option Record)) (o : Option ℕ) (count len : ℕ) → count ≡ live (views rs) → len ≡ length rs
+    → MatchOption o (AllWithin (λ r. is_some r ≡ true) rs 0 (length rs)) (λ i. (i < length rs) × HoldsAt (λ r. is_some r ≡ false) rs i × AllWithin (λ r. is_some r ≡ true) rs 0 i)
+    → MatchOption o (count ≡ len) (λ i. (i < len) × (slice_index_or rs i None ≡ None) × (count < len))
+first_free rs None count len c l a = omega (arith, all_live rs a)
+first_free rs (Some i) count len c l f =
+    let none : get_or rs i None ≡ None = none_from (get_or rs i None) (f.1 None) in
+    (omega (arith, f.0), none, omega (arith, one_free rs i f.0 none))
 
 -- ---- children of a path
 

@@ -1,10 +1,11 @@
 -- The tree that slots hold, and what a write to one slot makes of it. Assumes nothing.
 use Rattle.std.specs.Prelude.{◌≡◌, ℕ, zero, suc, Bool, true, false, cond, ◌⊎◌, [], ◌∷◌, Some, None, Option, ◌≢◌, slice_set, refl}
 use Rattle.std.proofs.Common.{sym, ap, ◌∙◌, inl, inr, ⊎_elim, arith}
-use Rattle.std.proofs.lemmas.Bool.{and_parts, and_from, both_ways, true≢false, false≢true}
+use Rattle.std.proofs.lemmas.Bool.{and_parts, and_from, both_ways, false≢true}
 use Rattle.values.specs.Rules.{all, is_path}
-use Rattle.fs.specs.Tree.{Path, Node, nothing, directory, file, Tree, same, before, at, with_node, is_nothing, Sorted}
-use Rattle.fs.proofs.Trees.{same_refl, same_no, cases_same, at_with, sorted_put}
+use Rattle.fs.specs.Tree.{Path, Node, nothing, directory, file, Tree, at, with_node, is_nothing, Sorted}
+use Rattle.fs.proofs.Trees.{same_refl, same_no, cases_same, at_with, sorted_with}
+use Rattle.host.proofs.Storing.{all_with}
 use Rattle.host.specs.Sound.{fits_node, ruled}
 use Rattle.linked_host.specs.Slots.{Entry, Slots, entry_at, path_of, Stands, tree_from, apart}
 
@@ -29,20 +30,6 @@ at_here p n t = at_with p n t p ∙ ap (λ b. cond b n (at t p)) (same_refl p)
 
 pub at_other : (p q : Path) (n : Node) (t : Tree) → (p ≢ q) → at (with_node p n t) q ≡ at t q
 at_other p q n t d = at_with p n t q ∙ ap (λ b. cond b n (at t q)) (same_no q p (λ e. d (sym e)))
-
-pub sorted_with : (p : Path) (n : Node) (t : Tree) → is_nothing n ≡ false → Sorted t → Sorted (with_node p n t)
-sorted_with p nothing t h s = absurd (true≢false h)
-sorted_with p directory t h s = sorted_put p directory t s
-sorted_with p (file c) t h s = sorted_put p (file c) t s
-
-all_with : (f : Entry → Bool) (p : Path) (n : Node) (t : Tree) → f (p, n) ≡ true → all f t ≡ true → all f (with_node p n t) ≡ true
-all_with f p n [] h a = and_from (f (p, n)) true h refl
-all_with f p n (e ∷ t) h a = by (same p e.0) (before p e.0) (and_parts (f e) (all f t) a) (all_with f p n t h)
-  where
-    by : (x y : Bool) → (f e ≡ true) × (all f t ≡ true) → (all f t ≡ true → all f (with_node p n t) ≡ true) → all f (cond x ((p, n) ∷ t) (cond y ((p, n) ∷ (e ∷ t)) (e ∷ with_node p n t))) ≡ true
-    by true y k rest = and_from (f (p, n)) (all f t) h k.1
-    by false true k rest = and_from (f (p, n)) (all f (e ∷ t)) h a
-    by false false k rest = and_from (f e) (all f (with_node p n t)) k.0 (rest k.1)
 
 -- ---- each entry keeps its rules
 

@@ -5,13 +5,11 @@ use Rattle.std.proofs.lemmas.List.{get_or_past, at_drop_more, at_drop_all}
 use Rattle.std.proofs.lemmas.Bool.{and_parts, and_from, both_ways, cases_eq, cases_lt, cases_order, cases_Bool, eqb-true, eq-eqb, cond-true, cond-false}
 use Rattle.values.specs.Rules.{all, is_path}
 use Rattle.values.specs.Texts.{path_text}
-use Rattle.values.specs.declared.path.Path.{Path as Text}
+use Rattle.values.specs.Texts.{Path as Text}
 use Rattle.fs.specs.Tree.{Path, same, parent}
 use Rattle.fs.proofs.Trees.{same_refl, same_eq}
-use Rattle.host.specs.Sound.{fits_node, ruled}
-use Rattle.host.specs.Stores.{node_of}
-use Rattle.host.specs.declared.stored.Stored.{Stored}
-use Rattle.host.specs.declared.stored.Stored.TheVariants.{Directory, File}
+use Rattle.host.specs.Sound.{ruled}
+use Rattle.host.proofs.Storing.{ruled_stored}
 use Rattle.linked_host.specs.Slots.{Entry, Slots, entry_at, path_of, Stands, is_child, scan, child_from}
 use Rattle.linked_host.specs.Links.{entry_of, view, views, same_link, slot_linked, linked_below, linked}
 use Rattle.linked_host.specs.Places.{text_of}
@@ -128,18 +126,10 @@ child_some d (Some r) b = refl
 pub path_some : (p : Text) → path_text p ≢ []
 path_some p e = both_ways (is_path (path_text p)) (ap is_path e) p.ruled
 
--- the types of a record's fields keep the rules
-pub ruled_entry : (r : Record) → ruled (entry_of r) ≡ true
-ruled_entry r = and_from (is_path (path_text r.path)) (fits_node (node_of r.node)) r.path.ruled (stored r.node)
-  where
-    stored : (n : Stored) → fits_node (node_of n) ≡ true
-    stored Directory = refl
-    stored (File c) = c.ruled
-
 pub fit_views : (rs : List (Option Record)) → all fit (views rs) ≡ true
 fit_views [] = refl
 fit_views (None ∷ rs) = fit_views rs
-fit_views (Some r ∷ rs) = and_from (ruled (entry_of r)) (all fit (views rs)) (ruled_entry r) (fit_views rs)
+fit_views (Some r ∷ rs) = and_from (ruled (entry_of r)) (all fit (views rs)) (ruled_stored r.path r.node) (fit_views rs)
 
 pub same_link_is : (a b : Option ℕ) → same_link a b ≡ true → a ≡ b
 same_link_is None None h = refl
@@ -220,6 +210,9 @@ counted_on es d k n o e h = on o (to_first es d k o e) (ahead_is es d k o e)
     on : (o : Option ℕ) → First es d k o → Ahead es d k o → Counted es d n o
     on None f a = omega arith
     on (Some j) f a = (f.1, omega arith)
+
+pub counted_first : (es : Slots) (d : Path) (o : Option ℕ) → o ≡ child_from es d 0 → Counted es d 0 o
+counted_first es d o e = counted_on es d 0 0 o e (omega arith)
 
 pub kids_few : (d : Path) (es : Slots) → kids d es ≤ length es
 kids_few d [] = omega arith

@@ -5,10 +5,10 @@ use Rattle.std.proofs.lemmas.List.{get_or-set_same, get_or-set_other}
 use Rattle.std.proofs.lemmas.Bool.{and_parts, both_ways, cases_eq}
 use Rattle.values.specs.Rules.{all}
 use Rattle.fs.specs.Tree.{Path, Node, nothing, Tree, same, before, parent, at, with_node, without, children, is_nothing, Sorted}
-use Rattle.fs.proofs.Trees.{tree_ext, sorted_put, at_put_here, at_put_other}
+use Rattle.fs.proofs.Trees.{tree_ext, sorted_put, sorted_with, at_put_here, at_put_other}
 use Rattle.host.specs.Sound.{ruled}
 use Rattle.linked_host.specs.Slots.{Entry, Slots, entry_at, path_of, Stands, tree_from, apart, is_child}
-use Rattle.linked_host.specs.Rows.{some_same, none_some, same_or_apart, is_none, at_here, at_other, sorted_with, fit, ruled_some, sorted_from, fit_set, at_none, at_live, at_set, unique, apart_set}
+use Rattle.linked_host.specs.Rows.{some_same, none_some, same_or_apart, is_none, at_here, at_other, fit, ruled_some, sorted_from, fit_set, at_none, at_live, at_set, unique, apart_set}
 
 -- ---- a node put into a free slot, and one taken out
 

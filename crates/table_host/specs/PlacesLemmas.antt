@@ -1,24 +1,26 @@
--- Where a path stands in a sorted tree, and what a table's records say of it. Assumes nothing.
-use Rattle.std.specs.Prelude.{◌≡◌, ℕ, zero, suc, ◌+◌, ◌<◌, true, false, cond, List, [], ◌∷◌, ◌++◌, length, get_or, take, drop, vec_items, slice_index_or, refl}
-use Rattle.std.proofs.Common.{sym, ap, subst, ◌∙◌, true≢false, ⊎_elim, add-one, arith}
+-- Where a path stands in a sorted tree, and what a search of a table's records says of it. Assumes nothing.
+use Rattle.std.specs.Prelude.{◌≡◌, ℕ, zero, suc, ◌+◌, ◌<◌, ◌≤◌, true, false, cond, List, [], ◌∷◌, ◌++◌, length, get_or, take, drop, Result, Ok, Err, MatchResult, count_by, refl}
+use Rattle.std.proofs.Common.{sym, ap, subst, ◌∙◌, true≢false, ⊎_elim, add-one, Ordering, Less, Equal, Greater, nat_cmp, arith}
+use Rattle.std.specs.Cmp.Lexicographic.{slice_cmp}
 use Rattle.std.specs.List.{insert, remove, AllByRecursion}
-use Rattle.std.proofs.lemmas.List.{drop_more, drop_all, get_or-map, at_drop_more, length-map, map-append, take-map, drop-map}
-use Rattle.std.proofs.lemmas.Bool.{and_from, cases_Bool}
-use Rattle.values.specs.Rules.{all, is_path}
-use Rattle.values.specs.Texts.{path_text, content_text}
+use Rattle.std.specs.List.Sorted.{IsBinarySearchResult, IsNonDecreasingBy, IsSearchInRange}
+use Rattle.std.specs.Ordering.{ordering_index}
+use Rattle.std.proofs.lemmas.List.{drop_more, drop_all, get_or-map, length-map, map-append, take-map, drop-map}
+use Rattle.std.proofs.lemmas.List.Recursion.{is_count_by}
+use Rattle.std.proofs.lemmas.Bool.{and_from, cases_Bool, cases_eq, cases_lt}
+use Rattle.values.specs.Order.{Ordered}
+use Rattle.values.proofs.Orders.{order_says}
+use Rattle.values.specs.Rules.{all}
+use Rattle.values.specs.Texts.{path_text}
 use Rattle.fs.specs.Rig.{Rig}
-use Rattle.fs.specs.Tree.{Path, Node, nothing, directory, file, Tree, same, before, parent, at, with_node, without, children, is_nothing, vacant as is_vacant, Sorted, Rooted}
-use Rattle.fs.proofs.Rooting.{rooted_make}
-use Rattle.fs.proofs.Trees.{same_refl, same_no, before_ne, before_trans, before_not_same, behind_none, behind_trans, sorted_put, put_same}
-use Rattle.host.specs.Sound.{ruled, fits_node}
+use Rattle.fs.specs.Tree.{Path, Node, nothing, Tree, same, before, parent, at, with_node, without, children, is_nothing, Behind, Sorted}
+use Rattle.fs.proofs.Trees.{same_refl, same_no, before_ne, before_trans, before_not_same, behind_none, behind_trans, put_same}
+use Rattle.host.specs.Sound.{ruled}
+use Rattle.host.proofs.Storing.{ruled_stored}
 use Rattle.host.specs.Stores.{node_of}
 use Rattle.table_host.specs.Places.{Found, Vacant}
-use Rattle.table_host.specs.Records.{tree_of, entry_of, nodes}
-use Rattle.table_host.specs.declared.table_host.TableHost.{TableHost}
-use Rattle.table_host.specs.Kept.{count_of, read_of}
+use Rattle.table_host.specs.Records.{tree_of, entry_of}
 use Rattle.table_host.specs.declared.record.Record.{Record}
-use Rattle.host.specs.declared.stored.Stored.{Stored}
-use Rattle.host.specs.declared.stored.Stored.TheVariants.{Directory, File}
 
 -- ---- the entries before a path
 
@@ -100,24 +102,82 @@ module _ (t : Tree) (s : Sorted t) (p : Path) (i : ℕ) (front : AllByRecursion 
         put = λ n. front_with p n i t front ∙ ap (λ u. take i t ++ with_node p n u) none ∙ ap (λ u. take i t ++ (p, n) ∷ u) (sym none);
       }
 
--- ---- what a record that was read says of the tree
+-- ---- what a binary search by the order of paths answers
 
-module _ (h : TableHost) where
-  pub read_entry : (i : ℕ) (r : Record) (d : Path × Node) → i < h.table.used → r ≡ slice_index_or (vec_items h.table.records) i r → slice_index_or (tree_of (nodes h.table)) i d ≡ entry_of r
-  read_entry i r d within read =
-      get_or-map entry_of (nodes h.table) i r d (omega (arith, count_of h, length-map (nodes h.table) entry_of)) ∙ ap entry_of (sym (read_of h i r within read))
+abbrev pub order_to : Path → Record → Ordering
+order_to p r = slice_cmp nat_cmp (path_text r.path) p
 
-  -- the node of the record that was found
-  pub found_node : (p : Path) (i : ℕ) (r : Record) → Found (tree_of (nodes h.table)) p i → r ≡ slice_index_or (vec_items h.table.records) i r → at (tree_of (nodes h.table)) p ≡ node_of r.node
-  found_node p i r f read = f.node ∙ ap (λ e. e.1) (read_entry i r (p, nothing) (subst (λ n. i < n) (count_of h) f.within) read)
+module _ (p : Path) where
+  least : (q : Path) → before q p ≡ true → slice_cmp nat_cmp q p ≡ Less
+  least q h = by (slice_cmp nat_cmp q p) (order_says q p (slice_cmp nat_cmp q p) refl)
+    where
+      by : (o : Ordering) → Ordered q p o → o ≡ Less
+      by Less k = refl
+      by Equal k = absurd (before_ne q p h k)
+      by Greater k = absurd (true≢false (sym (before_trans q p q h k) ∙ before_not_same q))
 
-  -- one entry fewer to count
-  pub count_step : (p : Path) (i : ℕ) (r : Record) → i < h.table.used → r ≡ slice_index_or (vec_items h.table.records) i r
-      → children (drop i (tree_of (nodes h.table))) p
-      ≡ cond (same (parent (path_text r.path)) p) (suc (children (drop (i + 1) (tree_of (nodes h.table))) p)) (children (drop (i + 1) (tree_of (nodes h.table))) p)
-  count_step p i r within read =
-      at_drop_more (λ u. children u p) (tree_of (nodes h.table)) i (p, nothing) (omega (arith, count_of h))
-      ∙ ap (λ e. children (e ∷ drop (i + 1) (tree_of (nodes h.table))) p) (read_entry i r (p, nothing) within read)
+  rising : (a b : Path) → before a b ≡ true → ordering_index (slice_cmp nat_cmp a p) ≤ ordering_index (slice_cmp nat_cmp b p)
+  rising a b h = by (slice_cmp nat_cmp b p) (order_says b p (slice_cmp nat_cmp b p) refl)
+    where
+      top : (o : Ordering) → ordering_index o ≤ 2
+      top Less = omega arith
+      top Equal = omega arith
+      top Greater = omega arith
+
+      by : (o : Ordering) → Ordered b p o → ordering_index (slice_cmp nat_cmp a p) ≤ ordering_index o
+      by Less k = let z = ap ordering_index (least a (before_trans a b p h k)) in omega arith
+      by Equal k = let z = ap ordering_index (least a (subst (λ q. before a q ≡ true) k h)) in omega arith
+      by Greater k = top (slice_cmp nat_cmp a p)
+
+behind_at : (q : Path) (rs : List Record) → Behind q (tree_of rs) → (j : ℕ) (d : Record) → j < length rs → before q (path_text (get_or rs j d).path) ≡ true
+behind_at q [] b j d w = absurd (omega arith)
+behind_at q (r ∷ rs) b zero d w = b.0
+behind_at q (r ∷ rs) b (suc j) d w = behind_at q rs b.1 j d (omega arith)
+
+rise : (rs : List Record) → Sorted (tree_of rs) → (i j : ℕ) (d : Record) → i < j → j < length rs → before (path_text (get_or rs i d).path) (path_text (get_or rs j d).path) ≡ true
+rise [] s i j d l w = absurd (omega arith)
+rise (r ∷ rs) s i zero d l w = absurd (omega arith)
+rise (r ∷ rs) s zero (suc j) d l w = behind_at (path_text r.path) rs s.0 j d (omega arith)
+rise (r ∷ rs) s (suc i) (suc j) d l w = rise rs s.2 i j d (omega arith) (omega arith)
+
+never_falls : (rs : List Record) → Sorted (tree_of rs) → (p : Path) → IsNonDecreasingBy (λ r. ordering_index (order_to p r)) rs
+never_falls rs s p i j d l w =
+    ⊎_elim
+    (λ e. let z = ap (λ k. ordering_index (order_to p (get_or rs k d))) e in omega arith)
+    (λ n. rising p (path_text (get_or rs i d).path) (path_text (get_or rs j d).path) (rise rs s i j d (omega arith) w))
+    (cases_eq i j)
+
+front_before : (p : Path) (rs : List Record) (i : ℕ) → ((k : ℕ) (d : Record) → k < i → before (path_text (get_or rs k d).path) p ≡ true) → AllByRecursion (Before p) (take i (tree_of rs))
+front_before p rs zero w = tt
+front_before p [] (suc i) w = tt
+front_before p (r ∷ rs) (suc i) w = (w 0 r (omega arith), front_before p rs i (λ k d l. w (suc k) d (omega arith)))
+
+pub searched : (rs : List Record) (p : Path) → Sorted (tree_of rs) → (o : Result ℕ ℕ) → IsSearchInRange o (length rs) → IsBinarySearchResult (order_to p) rs o → MatchResult o (Found (tree_of rs) p) (Vacant (tree_of rs) p)
+searched [] p s (Ok i) w k = absurd (omega arith)
+searched (r ∷ rs) p s (Ok i) w k =
+    let all : List Record = r ∷ rs in
+    let x : Record = get_or all i r in
+    let here : (d : Record) → path_text (get_or all i d).path ≡ p = λ d. order_says (path_text (get_or all i d).path) p Equal (sym (k d)) in
+    let front = front_before p all i (λ j d l. subst (λ q. before (path_text (get_or all j d).path) q ≡ true) (here d) (rise all s j i d l w)) in
+    found (tree_of all) s p i front (omega (arith, length-map all entry_of)) (entry_of x) (get_or-map entry_of all i r (p, nothing) (omega (arith, length-map all entry_of))) (here r)
+searched [] p s (Err i) w k = vacant_end [] tt p i (front_before p [] i (λ j d l. absurd (omega arith))) (omega arith)
+searched (r ∷ rs) p s (Err i) w k =
+    let all : List Record = r ∷ rs in
+    let x : Record = get_or all i r in
+    let split = k (never_falls all s p) in
+    let front = front_before p all i (λ j d l. order_says (path_text (get_or all j d).path) p Less (sym (split.0 j d (omega arith) l))) in
+    ⊎_elim
+    (λ l. vacant (tree_of all) s p i front (omega (arith, length-map all entry_of)) (entry_of x) (get_or-map entry_of all i r (p, nothing) (omega (arith, length-map all entry_of))) (order_says (path_text x.path) p Greater (sym (split.1 i r (omega arith) l))))
+    (λ l. vacant_end (tree_of all) s p i front (omega (arith, length-map all entry_of)))
+    (cases_lt i (length all))
+
+-- ---- how many nodes have a path as their parent
+
+pub children_counted : (rs : List Record) (p : Path) → children (tree_of rs) p ≡ count_by (λ r. same (parent (path_text r.path)) p) rs
+children_counted rs p =
+    is_count_by (λ l. children (tree_of l) p) (λ r. same (parent (path_text r.path)) p) refl
+    (λ r l. let more : suc (children (tree_of l) p) ≡ 1 + children (tree_of l) p = omega arith in ap (λ n. cond (same (parent (path_text r.path)) p) n (children (tree_of l) p)) more)
+    rs
 
 -- ---- the tree after an insertion and a removal
 
@@ -136,14 +196,6 @@ grown rs rs' r i v e = ap tree_of e ∙ tree_inserted rs i r ∙ sym (v.put (nod
 pub shrunk : (rs rs' : List Record) (p : Path) (i : ℕ) → Found (tree_of rs) p i → rs' ≡ remove rs i → tree_of rs' ≡ without p (tree_of rs)
 shrunk rs rs' p i f e = ap tree_of e ∙ tree_removed rs i ∙ sym f.gone
 
-pub sorted_stored : (p : Path) (n : Stored) (t : Tree) → Sorted t → Sorted (with_node p (node_of n) t)
-sorted_stored p Directory t s = sorted_put p directory t s
-sorted_stored p (File c) t s = sorted_put p (file (content_text c)) t s
-
-pub rooted_stored : (p : Path) (n : Stored) (t : Tree) → is_vacant t p ≡ true → Rooted t → Rooted (with_node p (node_of n) t)
-rooted_stored p Directory t v r = rooted_make p directory t v r
-rooted_stored p (File c) t v r = rooted_make p (file (content_text c)) t v r
-
 -- the rig with another tree
 pub with_tree : {t u : Tree} (capacity allowance : ℕ) → t ≡ u → ◌≡◌ {A = Rig} (record { tree = t; capacity = capacity; allowance = allowance }) (record { tree = u; capacity = capacity; allowance = allowance })
 with_tree capacity allowance e = λ i. record { tree = e i; capacity = capacity; allowance = allowance }
@@ -152,8 +204,4 @@ with_tree capacity allowance e = λ i. record { tree = e i; capacity = capacity;
 
 pub proper_records : (rs : List Record) → all ruled (tree_of rs) ≡ true
 proper_records [] = refl
-proper_records (r ∷ rs) = and_from (ruled (entry_of r)) (all ruled (tree_of rs)) (and_from (is_path (path_text r.path)) (fits_node (node_of r.node)) r.path.ruled (stored r.node)) (proper_records rs)
-  where
-    stored : (n : Stored) → fits_node (node_of n) ≡ true
-    stored Directory = refl
-    stored (File c) = c.ruled
+proper_records (r ∷ rs) = and_from (ruled (entry_of r)) (all ruled (tree_of rs)) (ruled_stored r.path r.node) (proper_records rs)

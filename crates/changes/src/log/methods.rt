@@ -1,4 +1,4 @@
-ghost use Rattle.std.specs.Prelude.{◌≡◌, ℕ, ◌<◌, ◌≤◌, [], ◌∷◌, ◌++◌, length, IfOk, if◌then◌else◌, MatchOption, nat_lt, slice_index_or};
+ghost use Rattle.std.specs.Prelude.{◌≡◌, ℕ, ◌<◌, ◌≤◌, [], ◌∷◌, ◌++◌, map, length, IfOk, MatchOption, MatchResult, slice_index_or};
 ghost use Rattle.values.specs.Texts.{path_text};
 ghost use Rattle.fs.specs.Change.{made as made_on, altered, leaves};
 ghost use Rattle.fs.specs.Tree.{Tree, at};
@@ -6,21 +6,16 @@ ghost use Rattle.changes.specs.Changes.{change_of};
 ghost use Rattle.changes.specs.Counts.{births, deaths};
 ghost use Rattle.changes.specs.Logs.{changes, under};
 
-use super::{Log, Moves};
+use super::{HELD_MAX, Log, LogFull, Moves};
 use crate::change::Change;
 use std::alloc::{AllocError, Global};
 use values::Path;
-
-const HELD_MAX: usize = 384;
 
 // Whether the change lies right below a path, or anywhere where none is given.
 fn lies_below(c: Change, above: Option<Path>) -> bool
     ensures { result ≡ under above (altered (change_of c)) }
 {
-    match above {
-        None => true,
-        Some(q) => c.lies_in(&q),
-    }
+    above.is_none_or(|q| c.lies_in(&q))
 }
 
 impl Log {
@@ -28,7 +23,7 @@ impl Log {
     pub fn open(heap: Global) -> Result<Log, AllocError>
         ensures { IfOk result (λ l. changes l ≡ []) }
     {
-        let held = Vec::with_capacity(heap, HELD_MAX)?;
+        let held = Vec::with_capacity(heap, HELD_MAX as usize)?;
         Ok(Log { held })
     }
 
@@ -42,23 +37,21 @@ impl Log {
     pub fn get(&self, i: u16) -> Option<Change>
         ensures { MatchOption result (length (changes self.now) ≤ i) (λ c. (i < length (changes self.now)) × (change_of c ≡ slice_index_or (changes self.now) i (change_of c))) }
     {
-        if i as usize >= self.held.len() {
-            return None;
-        }
-        Some(self.held[i as usize])
+        self.held.get(i as usize).copied()
+    }
+
+    // The changes, from the oldest on.
+    pub fn as_slice(&self) -> &[Change]
+        ensures { map change_of result.now ≡ changes self.now }
+    {
+        self.held.as_slice()
     }
 
     // The latest change at the path: what it leaves stands there.
     pub fn latest(&self, p: &Path) -> Option<Change>
         ensures { MatchOption result ((t : Tree) → at (made_on (changes self.now) t) (path_text p.now) ≡ at t (path_text p.now)) (λ c. (t : Tree) → at (made_on (changes self.now) t) (path_text p.now) ≡ leaves (change_of c)) }
     {
-        for i in (0..self.held.len()).rev() {
-            let c = self.held[i];
-            if *p == c.path() {
-                return Some(c);
-            }
-        }
-        None
+        self.held.iter().rev().find(|c| *p == c.path()).copied()
     }
 
     // The nodes that are made and removed, right below a path or anywhere.
@@ -67,9 +60,8 @@ impl Log {
     {
         let mut made = 0;
         let mut gone = 0;
-        for i in 0..self.held.len() {
-            let c = self.held[i];
-            if lies_below(c, above) {
+        for c in &self.held {
+            if lies_below(*c, above) {
                 if c.makes() {
                     made += 1;
                 } else {
@@ -80,15 +72,15 @@ impl Log {
         Moves { made, gone }
     }
 
-    // Holds one change more; false, and nothing done, where it holds as many as it can.
-    pub fn push(&mut self, c: Change) -> bool
-        ensures { (result ≡ nat_lt (length (changes self.old)) 384) × (changes self.new ≡ (if result then changes self.old ++ change_of c ∷ [] else changes self.old)) }
+    // Holds one change more, or does nothing where it holds as many as it can.
+    pub fn push(&mut self, c: Change) -> Result<(), LogFull>
+        ensures { MatchResult result (λ _. (length (changes self.old) < 384) × (changes self.new ≡ changes self.old ++ change_of c ∷ [])) (λ _. (384 ≤ length (changes self.old)) × (changes self.new ≡ changes self.old)) }
     {
-        if self.held.len() >= HELD_MAX {
-            return false;
+        if self.held.len() >= HELD_MAX as usize {
+            return Err(LogFull);
         }
         self.held.push_reserved(c);
-        true
+        Ok(())
     }
 
     pub fn clear(&mut self)

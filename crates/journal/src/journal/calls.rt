@@ -1,21 +1,18 @@
 // The calls of a host: questions go to the log first, changes that are taken are held.
 ghost use Rattle.std.specs.Prelude.{◌≡◌, length};
-ghost use Rattle.fs.specs.Change.{call};
 ghost use Rattle.changes.specs.Changes.{change_of};
 ghost use Rattle.changes.specs.Logs.{changes};
 ghost use Rattle.host.specs.Called.{Called};
-ghost use Rattle.journal.specs.Journals.{rig_of, Standing, Moved, capped};
-ghost use Rattle.changes.proofs.Sounds.{sound_calls};
-ghost use Rattle.journal.specs.Stand.{capped_sound, all_ruled};
+ghost use Rattle.host.specs.Checks.{Checked};
+ghost use Rattle.journal.specs.Journals.{rig_of};
+ghost use Rattle.journal.specs.Stand.{held_sound};
 
 use super::Journal;
-use changes::Change;
-use host::{Allowance, Host, HostFault, Kind};
+use changes::{Change, HELD_MAX};
+use host::{Allowance, Host, HostFault, Inspect, Kind, Stored};
 use values::{Content, Path};
 
-const HELD_MAX: Allowance = 384;
-
-impl<B: Host> Journal<B> {
+impl<B: Inspect> Journal<B> {
     // How many changes are held.
     pub fn held(&self) -> u16
         ensures { result ≡ length (changes self.now.log) }
@@ -23,27 +20,32 @@ impl<B: Host> Journal<B> {
         self.log.len()
     }
 
-    // Takes a change; the host below is left as it is.
-    pub fn change(&mut self, c: Change) -> Result<(), HostFault>
-        ensures { Moved B.Host.valid B.Host.means (λ g g'. Called (change_of c) g result g') self.old self.new }
+    // Whether a change would be taken.
+    fn check(&self, c: Change) -> Result<(), HostFault>
+        ensures { Checked (change_of c) (rig_of B.means self.now) result }
     {
-        if let Some(fault) = self.fault(c) {
-            return Err(fault);
+        match c {
+            Change::Mkdir(p) | Change::Creat(p, _) => self.may_make(&p),
+            Change::Rm(p) => self.may_remove(&p),
         }
+    }
+
+    // Takes a change; the host below is left as it is.
+    #[tactic(auto, using(crate::specs::Stand::held_few, crate::specs::Stand::takes_more, crate::specs::Stand::called_more))]
+    pub fn change(&mut self, c: Change) -> Result<(), HostFault>
+        ensures below { self.new.below ≡ self.old.below }
+        ensures called { Called (change_of c) (rig_of B.means self.old) result (rig_of B.means self.new) }
+    {
+        self.check(c)?;
         let _ = self.log.push(c);
         Ok(())
     }
 }
 
-impl<B: Host> Host for Journal<B> {
-    ghost means = { rig_of B.Host.means };
+impl<B: Inspect> Inspect for Journal<B> {
+    ghost means = { rig_of B.means };
 
-    // The host below takes the held changes one after the other.
-    ghost valid = { Standing B.Host.valid B.Host.means };
-
-    ghost sound = { λ j v.
-        let below = B.Host.means j.below in
-        sound_calls (changes j.log) (capped below) (rig_of B.Host.means j) (all_ruled j.log.held.items) (capped_sound below (B.Host.sound j.below v.0)) v.1 };
+    ghost sound = { λ j. held_sound j.log (B.means j.below) (B.sound j.below) j.stands };
 
     fn look(&self, p: &Path) -> Kind {
         match self.log.latest(p) {
@@ -59,6 +61,7 @@ impl<B: Host> Host for Journal<B> {
         }
     }
 
+    #[tactic(auto, using(crate::specs::Stand::children_made, crate::specs::Stand::few_children))]
     fn children(&self, p: &Path) -> u16 {
         let m = self.log.moves(Some(*p));
         self.below
@@ -67,6 +70,7 @@ impl<B: Host> Host for Journal<B> {
             .saturating_sub(m.gone)
     }
 
+    #[tactic(auto, using(crate::specs::Stand::nodes_made))]
     fn free(&self) -> u16 {
         let m = self.log.moves(None);
         self.below
@@ -81,13 +85,14 @@ impl<B: Host> Host for Journal<B> {
             .min(HELD_MAX)
             .saturating_sub(self.log.len())
     }
+}
 
-    fn mkdir(&mut self, p: &Path) -> Result<(), HostFault> {
-        self.change(Change::Mkdir(*p))
-    }
-
-    fn creat(&mut self, p: &Path, c: &Content) -> Result<(), HostFault> {
-        self.change(Change::Creat(*p, *c))
+impl<B: Inspect> Host for Journal<B> {
+    fn make(&mut self, p: &Path, node: Stored) -> Result<(), HostFault> {
+        self.change(match node {
+            Stored::Directory => Change::Mkdir(*p),
+            Stored::File(c) => Change::Creat(*p, c),
+        })
     }
 
     fn rm(&mut self, p: &Path) -> Result<(), HostFault> {

@@ -4,7 +4,7 @@ ghost use Rattle.std.specs.Vec.{with_item};
 ghost use Rattle.std.specs.contracts.option.Option.{the_row as option_row};
 ghost use Rattle.linked_host.specs.contracts.arena.Arena.{the_row};
 ghost use Rattle.linked_host.specs.contracts.record.Record.{the_row as record_row};
-ghost use Rattle.linked_host.specs.Arenas.{slots_of, slot, Held, slots_linked, root_linked};
+ghost use Rattle.linked_host.specs.Arenas.{slots_of, slot, Held, slots_linked, root_linked, Written};
 ghost use Rattle.linked_host.specs.Places.{link_at, next_of};
 
 use super::Arena;
@@ -44,9 +44,7 @@ impl Arena {
     // Writes one link.
     fn set_link(&mut self, at: Place, to: Option<usize>)
         requires { Held self.old at }
-        ensures slots { slots_of self.new ≡ slots_linked at to (slots_of self.old) }
-        ensures len { vec_len self.new.slots ≡ vec_len self.old.slots }
-        ensures first { self.new.first ≡ root_linked at to self.old.first }
+        ensures { Written self.old self.new (slots_linked at to (slots_of self.old)) (root_linked at to self.old.first) }
     {
         match at {
             Place::Root => self.first = to,
@@ -66,9 +64,7 @@ impl Arena {
         requires at { Held self.old at }
         requires within { i < vec_len self.old.slots }
         requires free { slot self.old i ≡ None }
-        ensures slots { slots_of self.new ≡ slots_linked at (Some i) (set (slots_of self.old) i (Some (record { path = path; node = node; first = None; next = link_at self.old.first (slots_of self.old) at }))) }
-        ensures len { vec_len self.new.slots ≡ vec_len self.old.slots }
-        ensures first { self.new.first ≡ root_linked at (Some i) self.old.first }
+        ensures { Written self.old self.new (slots_linked at (Some i) (set (slots_of self.old) i (Some (record { path = path; node = node; first = None; next = link_at self.old.first (slots_of self.old) at })))) (root_linked at (Some i) self.old.first) }
     {
         let next = self.link(at);
         *self.slot_mut(i) = Some(Record {
@@ -84,9 +80,7 @@ impl Arena {
     pub(crate) fn unlink(&mut self, at: Place, i: usize)
         requires at { Held self.old at }
         requires here { is_some (slot self.old i) ≡ true }
-        ensures slots { slots_of self.new ≡ set (slots_linked at (next_of (slot self.old i)) (slots_of self.old)) i None }
-        ensures len { vec_len self.new.slots ≡ vec_len self.old.slots }
-        ensures first { self.new.first ≡ root_linked at (next_of (slot self.old i)) self.old.first }
+        ensures { Written self.old self.new (set (slots_linked at (next_of (slot self.old i)) (slots_of self.old)) i None) (root_linked at (next_of (slot self.old i)) self.old.first) }
     {
         let r = self.record(i);
         self.set_link(at, r.next);

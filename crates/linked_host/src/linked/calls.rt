@@ -1,60 +1,40 @@
-// The calls of a host on linked records.
+// What can be asked of linked records.
 ghost use Rattle.linked_host.specs.Linked.{rig_of};
 ghost use Rattle.linked_host.specs.Soundness.{sound_of};
 
 use super::LinkedHost;
-use host::{Allowance, Host, HostFault, Kind, Stored};
+use host::{Allowance, Inspect, Kind};
 use values::{Content, Path};
 
-impl Host for LinkedHost {
+impl Inspect for LinkedHost {
     ghost means = { rig_of };
 
     // Its rules are in its type.
-    ghost valid = { λ _. Unit {0} };
-
-    ghost sound = { λ h _. sound_of h };
+    ghost sound = { sound_of };
 
     fn look(&self, p: &Path) -> Kind {
-        match self.node_at(p) {
-            Some(node) => match node {
-                Stored::Directory => Kind::Directory,
-                Stored::File(_) => Kind::File,
-            },
-            None => Kind::Nothing,
-        }
+        self.node_at(p).map_or(Kind::Nothing, |node| node.kind())
     }
 
     fn holds(&self, p: &Path, c: &Content) -> bool {
-        match self.node_at(p) {
-            Some(node) => match node {
-                Stored::Directory => false,
-                Stored::File(held) => *c == held,
-            },
-            None => false,
-        }
+        self.node_at(p).is_some_and(|node| node.holds(c))
     }
 
     fn children(&self, p: &Path) -> u16 {
-        self.child_count(self.first_child(p), p)
+        let mut n = 0;
+        let mut cursor = self.first_child(p);
+        while let Some(i) = cursor {
+            n += 1;
+            cursor = self.arena.record(i).next;
+        }
+        n
     }
 
     fn free(&self) -> u16 {
-        self.arena.slots.len() as u16 - self.node_count()
+        self.arena.slots.iter().filter(|s| s.is_none()).count() as u16
     }
 
     fn allowance(&self) -> Allowance {
         self.allowance
-    }
-
-    fn mkdir(&mut self, p: &Path) -> Result<(), HostFault> {
-        self.add(p, Stored::Directory)
-    }
-
-    fn creat(&mut self, p: &Path, c: &Content) -> Result<(), HostFault> {
-        self.add(p, Stored::File(*c))
-    }
-
-    fn rm(&mut self, p: &Path) -> Result<(), HostFault> {
-        self.remove(p)
     }
 }

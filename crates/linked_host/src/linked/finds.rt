@@ -1,10 +1,10 @@
 // How a linked host is opened and searched.
-ghost use Rattle.std.specs.Prelude.{◌≡◌, ◌<◌, ◌≤◌, true, false, length, None, vec_len, MatchOption};
-ghost use Rattle.fs.specs.Tree.{at, nothing, is_dir, parent, children};
+ghost use Rattle.std.specs.Prelude.{◌≡◌, ◌<◌, true, false, length, None, vec_len, MatchOption};
+ghost use Rattle.fs.specs.Tree.{at, nothing, is_dir, parent};
 ghost use Rattle.values.specs.Texts.{path_text};
 ghost use Rattle.host.specs.Opening.{Opened};
+ghost use Rattle.host.specs.Stores.{node_in};
 ghost use Rattle.linked_host.specs.Slots.{child_from, Stands};
-ghost use Rattle.linked_host.specs.Links.{node_in};
 ghost use Rattle.linked_host.specs.Arenas.{entries, slot, Held};
 ghost use Rattle.linked_host.specs.Places.{Heads, Before, dir_of, from_of};
 ghost use Rattle.linked_host.specs.Linked.{rig_of, tree_of};
@@ -16,25 +16,13 @@ use host::{Limits, OpenFault, Stored};
 use std::alloc::Global;
 use values::Path;
 
-const CAPACITY_MIN: u16 = 1;
-
-const CAPACITY_MAX: u16 = 256;
-
 impl LinkedHost {
-    // A host with an empty tree and those numbers, with slots reserved for all its nodes.
+    // A host with an empty tree and those numbers, with a free slot for each node.
     pub fn open(heap: Global, limits: Limits) -> Result<LinkedHost, OpenFault>
         ensures { Opened rig_of limits result }
     {
-        let capacity = limits.capacity;
-        if capacity < CAPACITY_MIN || capacity > CAPACITY_MAX {
-            return Err(OpenFault::Capacity);
-        }
-        let Ok(mut slots) = Vec::with_capacity(heap, capacity as usize) else {
-            return Err(OpenFault::Memory);
-        };
-        for _i in 0..capacity {
-            slots.push_reserved(None);
-        }
+        let capacity = limits.capacity()?;
+        let slots = vec![in heap; None; capacity as usize]?;
         Ok(LinkedHost {
             arena: Arena { slots, first: None },
             allowance: limits.allowance,
@@ -64,69 +52,31 @@ impl LinkedHost {
         let Some(up) = p.parent() else {
             return self.search(self.arena.first, p);
         };
-        match self.find(&up) {
-            Some(i) => self.search(self.arena.record(i).first, p),
-            None => None,
-        }
+        let i = self.find(&up)?;
+        self.search(self.arena.record(i).first, p)
     }
 
     // The node at `p`, if there is one.
     pub(super) fn node_at(&self, p: &Path) -> Option<Stored>
         ensures { at (tree_of self.now) (path_text p.now) ≡ node_in result }
     {
-        match self.find(p) {
-            Some(i) => Some(self.arena.record(i).node),
-            None => None,
-        }
+        let i = self.find(p)?;
+        Some(self.arena.record(i).node)
     }
 
     // The slot of the first child of `p`.
     pub(super) fn first_child(&self, p: &Path) -> Option<usize>
         ensures { result ≡ child_from (entries self.now.arena) (path_text p.now) 0 }
     {
-        match self.find(p) {
-            Some(i) => self.arena.record(i).first,
-            None => None,
-        }
-    }
-
-    // How many children `p` has, the first of which is `head`.
-    pub(super) fn child_count(&self, head: Option<usize>, p: &Path) -> u16
-        requires { head ≡ child_from (entries self.now.arena) (path_text p.now) 0 }
-        ensures { result ≡ children (tree_of self.now) (path_text p.now) }
-    {
-        let mut n = 0;
-        let mut cursor = head;
-        while let Some(i) = cursor {
-            n += 1;
-            cursor = self.arena.record(i).next;
-        }
-        n
-    }
-
-    pub(super) fn node_count(&self) -> u16
-        ensures count { result ≡ length (tree_of self.now) }
-        ensures few { result ≤ vec_len self.now.arena.slots }
-    {
-        let mut n = 0;
-        for i in 0..self.arena.slots.len() {
-            if self.arena.slots[i].is_some() {
-                n += 1;
-            }
-        }
-        n
+        let i = self.find(p)?;
+        self.arena.record(i).first
     }
 
     // The first free slot.
     pub(super) fn vacancy(&self) -> Option<usize>
         ensures { MatchOption result (length (tree_of self.now) ≡ vec_len self.now.arena.slots) (λ i. (i < vec_len self.now.arena.slots) × (slot self.now.arena i ≡ None) × (length (tree_of self.now) < vec_len self.now.arena.slots)) }
     {
-        for i in 0..self.arena.slots.len() {
-            if self.arena.slots[i].is_none() {
-                return Some(i);
-            }
-        }
-        None
+        self.arena.slots.iter().position(|s| s.is_none())
     }
 
     // The place of the link to the first child of the parent of `p`, where that is a directory.
@@ -136,9 +86,7 @@ impl LinkedHost {
         let Some(up) = p.parent() else {
             return Some(Place::Root);
         };
-        let Some(i) = self.find(&up) else {
-            return None;
-        };
+        let i = self.find(&up)?;
         match self.arena.record(i).node {
             Stored::Directory => Some(Place::First(i)),
             Stored::File(_) => None,

@@ -2,7 +2,7 @@ ghost use Rattle.std.specs.Prelude.{◌≡◌, ℕ, ◌+◌, ◌<◌, ◌≤◌,
 ghost use Rattle.std.specs.Borrow.{sem, follows};
 ghost use Rattle.std.specs.Vec.{with_item};
 ghost use Rattle.std.specs.List.{insert, remove};
-ghost use Rattle.table_host.specs.Records.{nodes};
+ghost use Rattle.table_host.specs.Records.{nodes, Within};
 ghost use Rattle.table_host.specs.contracts.record.Record.{the_row as the_record};
 ghost use Rattle.table_host.specs.contracts.table.Table.{the_row};
 
@@ -10,6 +10,14 @@ use super::Table;
 use crate::record::Record;
 
 impl Table {
+    // The nodes, in byte order of their paths.
+    pub(crate) fn nodes(&self) -> &[Record]
+        requires { Within self.now }
+        ensures { result.now ≡ nodes self.now }
+    {
+        &self.records[..self.used]
+    }
+
     // One record, to be altered.
     pub(crate) fn record_mut(&mut self, i: usize) -> &mut Record
         requires { i < vec_len self.old.records }
@@ -21,11 +29,11 @@ impl Table {
     // Puts a node at the place `i`: into a free record where there is one, and else into a new one.
     pub(crate) fn insert(&mut self, i: usize, record: Record)
         requires place { i ≤ self.old.used }
-        requires used { self.old.used ≤ vec_len self.old.records }
+        requires used { Within self.old }
         requires room { self.old.used < vec_capacity self.old.records }
         ensures nodes { nodes self.new ≡ insert (nodes self.old) i «record» }
         ensures used { self.new.used ≡ self.old.used + 1 }
-        ensures within { self.new.used ≤ vec_len self.new.records }
+        ensures within { Within self.new }
         ensures room { vec_capacity self.new.records ≡ vec_capacity self.old.records }
     {
         if self.used < self.records.len() {
@@ -41,10 +49,10 @@ impl Table {
     // Frees the record of the node at the place `i`: it goes behind the nodes.
     pub(crate) fn remove(&mut self, i: usize)
         requires place { i < self.old.used }
-        requires used { self.old.used ≤ vec_len self.old.records }
+        requires used { Within self.old }
         ensures nodes { nodes self.new ≡ remove (nodes self.old) i }
         ensures used { self.new.used + 1 ≡ self.old.used }
-        ensures within { self.new.used ≤ vec_len self.new.records }
+        ensures within { Within self.new }
         ensures room { vec_capacity self.new.records ≡ vec_capacity self.old.records }
     {
         let free = self.records.remove(i);

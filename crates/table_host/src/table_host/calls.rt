@@ -1,35 +1,31 @@
-// The calls of a host on a table.
+// What can be asked of a table.
 ghost use Rattle.table_host.specs.Tables.{rig_of};
 ghost use Rattle.table_host.specs.Soundness.{sound_of};
 
 use super::TableHost;
-use host::{Allowance, Host, HostFault, Kind, Stored};
+use host::{Allowance, Inspect, Kind};
 use values::{Content, Path};
 
-impl Host for TableHost {
+impl Inspect for TableHost {
     ghost means = { rig_of };
 
     // Its rules are in its type.
-    ghost valid = { λ _. Unit {0} };
-
-    ghost sound = { λ h _. sound_of h };
+    ghost sound = { sound_of };
 
     fn look(&self, p: &Path) -> Kind {
-        self.kind_at(p)
+        self.node_at(p).map_or(Kind::Nothing, |node| node.kind())
     }
 
     fn holds(&self, p: &Path, c: &Content) -> bool {
-        match self.find(p) {
-            Ok(i) => match self.table.records[i].node {
-                Stored::Directory => false,
-                Stored::File(held) => *c == held,
-            },
-            Err(_) => false,
-        }
+        self.node_at(p).is_some_and(|node| node.holds(c))
     }
 
     fn children(&self, p: &Path) -> u16 {
-        self.child_count(p)
+        self.table
+            .nodes()
+            .iter()
+            .filter(|r| r.path.is_child_of(p))
+            .count() as u16
     }
 
     fn free(&self) -> u16 {
@@ -38,17 +34,5 @@ impl Host for TableHost {
 
     fn allowance(&self) -> Allowance {
         self.allowance
-    }
-
-    fn mkdir(&mut self, p: &Path) -> Result<(), HostFault> {
-        self.add(p, Stored::Directory)
-    }
-
-    fn creat(&mut self, p: &Path, c: &Content) -> Result<(), HostFault> {
-        self.add(p, Stored::File(*c))
-    }
-
-    fn rm(&mut self, p: &Path) -> Result<(), HostFault> {
-        self.remove(p)
     }
 }

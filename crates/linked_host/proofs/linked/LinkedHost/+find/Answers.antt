@@ -5,7 +5,7 @@ use Rattle.linked_host.specs.Slots.{child_from}
 use Rattle.linked_host.specs.Linked.{tree_of}
 use Rattle.linked_host.specs.Arenas.{slots_of, entries}
 use Rattle.linked_host.specs.Scans.{path_some, same_link_is, stands_some, stands_path, leads}
-use Rattle.linked_host.specs.Lookups.{shorter, dir_at, rooted_in, fatherless}
+use Rattle.linked_host.specs.Lookups.{shorter, dir_at, fatherless}
 use Rattle.linked_host.proofs.linked.LinkedHost.+find.Goals as goal
 
 pub search-requires : goal.search-requires
@@ -24,19 +24,19 @@ find-requires t c =
     (omega (arith, c.decreases), tt)
 
 pub record-requires : goal.record-requires
-record-requires t c = stands_some (slots_of c.args.self.now.arena) _ c.in-Some-find.i c.in-Some-find.ensures
+record-requires t c = stands_some (slots_of c.args.self.now.arena) _ c.in_ok-i.i c.in_ok-i.ensures
 
-pub search-requires-in-Some-find : goal.search-requires-in-Some-find
-search-requires-in-Some-find t c =
+pub search-requires-2 : goal.search-requires-2
+search-requires-2 t c =
     let h = c.args.self.now in
     let rs = slots_of h.arena in
     let es = entries h.arena in
-    let named = stands_path rs _ c.in-Some-find.i c.record.result c.record.ensures c.in-Some-find.ensures in
-    (leads rs h.chained c.in-Some-find.i c.record.result c.record.ensures).0 ∙ ap (λ d. child_from es d 0) (named ∙ c.in-Some.ensures)
+    let named = stands_path rs _ c.in_ok-i.i c.record.result c.record.ensures c.in_ok-i.ensures in
+    (leads rs h.chained c.in_ok-i.i c.record.result c.record.ensures).0 ∙ ap (λ d. child_from es d 0) (named ∙ c.in-Some.ensures)
 
-pub returns-in-None : goal.returns-in-None
-returns-in-None t c =
+pub returns-in_err-i : goal.returns-in_err-i
+returns-in_err-i t c =
     let h = c.args.self.now in
     let u = tree_of h in
     let up = c.in-Some.up in
-    fatherless u (path_text c.args.p.now) (rooted_in u h.grounded) (ap (is_dir u) (sym c.in-Some.ensures) ∙ dir_at u (path_text up) nothing (path_some up) c.in-None.ensures)
+    rw c.from_residual.ensures (fatherless u (path_text c.args.p.now) h.grounded (ap (is_dir u) (sym c.in-Some.ensures) ∙ dir_at u (path_text up) nothing (path_some up) c.in_err-i.ensures))

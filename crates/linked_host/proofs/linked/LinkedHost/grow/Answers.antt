@@ -27,8 +27,7 @@ left c =
     let none = is_none (at t p) is.1 in
     let before : Before (entries a) (parent p) i at' = subst (λ d. Before (entries a) d i at') c.requires.head.1.0 c.place_before-at.ensures.1 in
     let within : i < length rs = omega (arith, c.requires.within, a.slots.ok.0) in
-    left_as h c.insert.new.self (with_node p (node_of c.args.node) t) (root_linked at' (Some i) a.first) (slots_linked at' (Some i) (set rs i (Some r)))
-    c.insert.ensures.len c.insert.ensures.first c.insert.ensures.slots
+    left_as h c.insert.new.self (with_node p (node_of c.args.node) t) (slots_linked at' (Some i) (set rs i (Some r))) (root_linked at' (Some i) a.first) c.insert.ensures
     (add_kept a.first rs (kept_of h) i r at' there before within c.requires.free refl refl is.0 none)
     (add_tree a.first rs (kept_of h) i r at' there before within c.requires.free refl refl is.0 none)
 
@@ -36,7 +35,7 @@ pub invariant_of-self : goal.invariant_of-self
 invariant_of-self c =
     let h = c.args.self.now in
     let k = left c in
-    record { low = omega (arith, h.low, k.len); high = omega (arith, h.high, k.len); few = h.few; distinct = k.kept.distinct; grounded = ∣ k.kept.grounded ∣₁; headed = k.kept.headed; chained = k.kept.chained }
+    record { low = omega (arith, h.low, k.len); high = omega (arith, h.high, k.len); few = h.few; distinct = k.kept.distinct; grounded = k.kept.grounded; headed = k.kept.headed; chained = k.kept.chained }
 
 pub returns : goal.returns
 returns c = let k = left (goal.at.returns c).After-insert in record { tree = k.tree; capacity = k.len; allowance = refl }

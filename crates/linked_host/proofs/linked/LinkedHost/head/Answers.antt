@@ -14,7 +14,7 @@ returns-in_default c =
     (ap (is_dir (tree_of c.args.self.now)) root, tt, (sym root, refl))
 
 pub record-requires : goal.record-requires
-record-requires c = stands_some (slots_of c.args.self.now.arena) _ c.in-Some-find.i c.in-Some-find.ensures
+record-requires c = stands_some (slots_of c.args.self.now.arena) _ c.in_ok-i.i c.in_ok-i.ensures
 
 pub returns-in-Directory : goal.returns-in-Directory
 returns-in-Directory c =
@@ -23,8 +23,8 @@ returns-in-Directory c =
     let up = c.in-Some.up in
     let d = path_text up in
     let is = c.in-Some.ensures in
-    let i = c.in-Some-find.i in
-    let s = c.in-Some-find.ensures in
+    let i = c.in_ok-i.i in
+    let s = c.in_ok-i.ensures in
     (ap (is_dir (tree_of h)) (sym is) ∙ dir_at (tree_of h) d _ (path_some up) (stands_node rs h.distinct d i c.record.result c.record.ensures s ∙ ap node_of c.in-Directory.is), stands_some rs d i s, (stands_text rs d i s ∙ is, refl))
 
 pub returns-in-File : goal.returns-in-File
@@ -33,10 +33,10 @@ returns-in-File c =
     let up = c.in-Some.up in
     let d = path_text up in
     ap (is_dir (tree_of h)) (sym c.in-Some.ensures)
-    ∙ dir_at (tree_of h) d _ (path_some up) (stands_node (slots_of h.arena) h.distinct d c.in-Some-find.i c.record.result c.record.ensures c.in-Some-find.ensures ∙ ap node_of c.in-File.is)
+    ∙ dir_at (tree_of h) d _ (path_some up) (stands_node (slots_of h.arena) h.distinct d c.in_ok-i.i c.record.result c.record.ensures c.in_ok-i.ensures ∙ ap node_of c.in-File.is)
 
-pub returns-in_default-find : goal.returns-in_default-find
-returns-in_default-find c =
+pub returns-in_err-i : goal.returns-in_err-i
+returns-in_err-i c =
     let h = c.args.self.now in
     let up = c.in-Some.up in
-    ap (is_dir (tree_of h)) (sym c.in-Some.ensures) ∙ dir_at (tree_of h) (path_text up) nothing (path_some up) c.in_default-find.ensures
+    rw c.from_residual.ensures (ap (is_dir (tree_of h)) (sym c.in-Some.ensures) ∙ dir_at (tree_of h) (path_text up) nothing (path_some up) c.in_err-i.ensures)

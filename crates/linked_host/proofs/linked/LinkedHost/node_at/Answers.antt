@@ -5,9 +5,9 @@ use Rattle.linked_host.specs.Scans.{stands_some}
 use Rattle.linked_host.proofs.linked.LinkedHost.node_at.Goals as goal
 
 pub record-requires : goal.record-requires
-record-requires c = stands_some (slots_of c.args.self.now.arena) _ c.in-Some.i c.in-Some.ensures
+record-requires c = stands_some (slots_of c.args.self.now.arena) _ c.in_ok-i.i c.in_ok-i.ensures
 
-pub returns-in-Some : goal.returns-in-Some
-returns-in-Some c =
+pub returns : goal.returns
+returns c =
     let h = c.args.self.now in
-    stands_node (slots_of h.arena) h.distinct (path_text c.args.p.now) c.in-Some.i c.record.result c.record.ensures c.in-Some.ensures
+    stands_node (slots_of h.arena) h.distinct (path_text c.args.p.now) c.in_ok-i.i c.record.result c.record.ensures c.in_ok-i.ensures

@@ -2,7 +2,7 @@ use Rattle.std.proofs.Common.{◌≡◌, true, set, None, sym, refl, ap, ◌∙�
 use Rattle.fs.specs.Tree.{at, children, parent, removable, without}
 use Rattle.values.specs.Texts.{path_text}
 use Rattle.linked_host.specs.Places.{next_of, Before}
-use Rattle.linked_host.specs.Arenas.{slots_of, slot, entries, slots_linked, root_linked}
+use Rattle.linked_host.specs.Arenas.{slots_of, slot, entries, slots_linked, root_linked, Written}
 use Rattle.linked_host.specs.Linked.{tree_of}
 use Rattle.linked_host.proofs.Changed.{Left, kept_of, left_as, rm_kept, rm_tree}
 use Rattle.linked_host.proofs.Linking.{held}
@@ -29,10 +29,8 @@ left c =
     let is : path_text r.path ≡ p = stands_path rs p i r there.1 c.requires.here in
     let clear : removable (at t (path_text r.path)) (children t (path_text r.path)) ≡ true = ap (λ q. removable (at t q) (children t q)) is ∙ c.requires.clear in
     let before : Before (entries a) (parent (path_text r.path)) i at' = subst (λ d. Before (entries a) d i at') (c.requires.heads.0 ∙ ap parent (sym is)) c.place_before-at.ensures.1 in
-    left_as h c.unlink.new.self (without p t) (root_linked at' r.next a.first) (set (slots_linked at' r.next rs) i None)
-    c.unlink.ensures.len
-    (c.unlink.ensures.first ∙ ap (λ o. root_linked at' o a.first) next)
-    (c.unlink.ensures.slots ∙ ap (λ o. set (slots_linked at' o rs) i None) next)
+    left_as h c.unlink.new.self (without p t) (set (slots_linked at' r.next rs) i None) (root_linked at' r.next a.first)
+    (subst (λ o. Written a c.unlink.new.self (set (slots_linked at' o rs) i None) (root_linked at' o a.first)) next c.unlink.ensures)
     (rm_kept a.first rs (kept_of h) i r at' c.place_before-at.ensures.0 before there.1 clear)
     (rm_tree a.first rs (kept_of h) i r at' c.place_before-at.ensures.0 before there.1 clear ∙ ap (λ q. without q t) is)
 
@@ -40,7 +38,7 @@ pub invariant_of-self : goal.invariant_of-self
 invariant_of-self c =
     let h = c.args.self.now in
     let k = left c in
-    record { low = omega (arith, h.low, k.len); high = omega (arith, h.high, k.len); few = h.few; distinct = k.kept.distinct; grounded = ∣ k.kept.grounded ∣₁; headed = k.kept.headed; chained = k.kept.chained }
+    record { low = omega (arith, h.low, k.len); high = omega (arith, h.high, k.len); few = h.few; distinct = k.kept.distinct; grounded = k.kept.grounded; headed = k.kept.headed; chained = k.kept.chained }
 
 pub returns : goal.returns
 returns c = let k = left (goal.at.returns c).After-unlink in record { tree = k.tree; capacity = k.len; allowance = refl }

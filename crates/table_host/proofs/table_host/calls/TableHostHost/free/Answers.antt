@@ -1,6 +1,0 @@
-use Rattle.std.proofs.Common.{arith}
-use Rattle.table_host.specs.Kept.{count_of}
-use Rattle.table_host.proofs.table_host.calls.TableHostHost.free.Goals as goal
-
-pub returns : goal.returns
-returns c v = omega (arith, count_of c.args.self.now)
