@@ -1,5 +1,5 @@
 -- What an addition leaves. Assumes nothing.
-use Rattle.std.proofs.Common.{◌≡◌, ℕ, suc, ◌+◌, ◌<◌, ◌≤◌, Bool, true, false, cond, not, eqb, List, [], ◌∷◌, ◌++◌, map, length, get_or, take, set, is_ok, IsErrAnd, Ok, Err, vec_items, vec_len, Result, Vec, sym, refl, ap, ◌∙◌, subst, arith}
+use Rattle.std.proofs.Common.{◌≡◌, ℕ, suc, ◌+◌, ◌<◌, ◌≤◌, Bool, true, false, cond, not, eqb, List, [], ◌∷◌, ◌++◌, map, length, get_or, take, set, is_ok, IsErrAnd, Ok, Err, vec_items, vec_len, Result, Vec, sym, refl, ap, ◌∙◌, arith}
 use Rattle.std.specs.declared.alloc.Global.{Global}
 use Rattle.std.proofs.lemmas.List.{map_push, set_split, drop_all, take-append-drop, drop_more}
 use Rattle.fs.specs.Tree.{has}
@@ -7,16 +7,13 @@ use Rattle.fs.specs.Package.{entry_paths, distinct, under_pkg, any_under_pkg}
 use Rattle.fs.specs.Manifest as model
 use Rattle.fs.specs.Manifest.{dir_entry, file_entry}
 use Rattle.records.specs.Entries.{entry_of, entry_path}
-use Rattle.records.specs.Faults.{fault_at, located}
-use Rattle.records.specs.Items.{Tells, after, new_entry, meaning_of, meaning}
+use Rattle.records.specs.Items.{after, Meaning, new_entry, meaning}
 use Rattle.records.specs.Saying.{Ruled}
 use Rattle.records.specs.declared.entry.Entry.{Entry}
 use Rattle.records.specs.declared.fault.Ground.{Ground}
-use Rattle.records.specs.declared.fault.IndexFault.{IndexFault}
-use Rattle.records.specs.declared.item.Item.{Item}
-use Rattle.records.proofs.Says.{not_both, said_exactly}
-use Rattle.index.specs.declared.error.IndexError.{IndexError}
-use Rattle.index.specs.declared.error.IndexError.TheVariants.{Fault, Memory}
+use Rattle.records.proofs.Says.{said_exactly}
+use Rattle.faults.specs.declared.error.ReadError.{ReadError}
+use Rattle.faults.specs.declared.error.ReadError.TheVariants.{Fault, Memory}
 use Rattle.index.specs.declared.packages.Package.{Package}
 use Rattle.index.specs.Errors.{Added}
 use Rattle.index.specs.Listed.{entries_of}
@@ -78,16 +75,19 @@ module _ (v w : Vec Package Global) (b : Bool) (x : Package) (n : List ℕ) (new
       by true e = ap (λ l. distinct (names l)) (packs_push e) ∙ ap distinct (map_push (λ (p : Pack). p.0) (packs_of v) (n, [])) ∙ distinct_push (names (packs_of v)) n d a
       by false e = ap (λ l. distinct (names (map pack_of l))) e ∙ d
 
--- the value of an answer, and the refusal, without the place
-pub unplaced : {X : Type 0} (p : ℕ) (r : Result X Ground) (x : X) → Ok x ≡ located p r → r ≡ Ok x
-unplaced p (Ok y) x h = ap Ok (same_value {E = IndexFault} y x (sym h))
-unplaced p (Err g) x h = absurd (not_both (fault_at p g) x (sym h))
+-- an addition that is refused, or that lacks memory
+module _ {X : Type 0} (x y : X) (same : y ≡ x) (a : Result X Ground) where
+  pub refused : (g : Ground) → a ≡ Err g → (res : Result Unit (ReadError Ground)) → IsErrAnd res (λ e. e ≡ Fault g) → Added x a res y
+  refused g h (Ok u) z = absurd z
+  refused g h (Err (Fault f)) z = let is : f ≡ g = cc in (h ∙ ap Err (sym is), same)
+  refused g h (Err Memory) z = absurd (let n : ◌≡◌ {A = ℕ} 0 1 = cc in omega arith)
 
--- what goes on from a refusal is that refusal
-located_after : {X Y : Type 0} (p : ℕ) (a : Result X Ground) (h : X → Result Y Ground) (f : IndexFault) → located p a ≡ Err f → located p (after a h) ≡ Err f
-located_after p (Ok x) h f e = absurd (not_both f x (sym e))
-located_after p (Err g) h f e = let same_fault : fault_at p g ≡ f = cc in ap Err same_fault
+  pub wanting : is_ok a ≡ true → (res : Result Unit (ReadError Ground)) → IsErrAnd res (λ e. e ≡ Memory) → Added x a res y
+  wanting h (Ok u) z = absurd z
+  wanting h (Err (Fault f)) z = absurd (let n : ◌≡◌ {A = ℕ} 0 1 = cc in omega arith)
+  wanting h (Err Memory) z = (h, same)
 
+-- a value that goes on to a value
 ok_after : {X Y : Type 0} (a : Result X Ground) (h : X → Result Y Ground) → ((x : X) → is_ok (h x) ≡ true) → is_ok a ≡ true → is_ok (after a h) ≡ true
 ok_after (Ok x) h f e = f x
 ok_after (Err g) h f e = e
@@ -103,7 +103,7 @@ module _ {X : Type 0} (xs : List X) (n : ℕ) (long : n + 1 ≡ length xs) where
   write_last y = set_split xs n y (omega arith) ∙ ap (λ l. take n xs ++ y ∷ l) (drop_all (suc n) xs (omega arith))
 
 -- an entry that is added to the last package
-module _ (xs : List Package) (n : ℕ) (x y : Package) (long : n + 1 ≡ length xs) (read : x ≡ get_or xs n x) (e : model.Entry) (p : ℕ) where
+module _ (xs : List Package) (n : ℕ) (x y : Package) (long : n + 1 ≡ length xs) (read : x ≡ get_or xs n x) (e : model.Entry) where
   before : map pack_of xs ≡ map pack_of (take n xs) ++ pack_of x ∷ []
   before = ap (map pack_of) (read_last xs n long x read) ∙ map_push pack_of (take n xs) x
 
@@ -113,10 +113,10 @@ module _ (xs : List Package) (n : ℕ) (x y : Package) (long : n + 1 ≡ length 
   grows : grown (map pack_of xs) (new_entry e) ≡ after (extended (pack_of x) e) (λ q. Ok (map pack_of (take n xs) ++ q ∷ []))
   grows = ap (λ l. grown l (new_entry e)) before ∙ grown_entry (map pack_of (take n xs)) (pack_of x) e
 
-  pub added_last : (r : Result Unit IndexError) → Added (pack_of x) p (extended (pack_of x) e) r (pack_of y) → Added (map pack_of xs) p (grown (map pack_of xs) (new_entry e)) r (map pack_of (set xs n y))
+  pub added_last : (r : Result Unit (ReadError Ground)) → Added (pack_of x) (extended (pack_of x) e) r (pack_of y) → Added (map pack_of xs) (grown (map pack_of xs) (new_entry e)) r (map pack_of (set xs n y))
   added_last (Ok u) h = grows ∙ ap (λ r. after r (λ q. Ok (map pack_of (take n xs) ++ q ∷ []))) h ∙ ap Ok (sym behind)
   added_last (Err (Fault f)) h = (
-    ap (located p) grows ∙ located_after p (extended (pack_of x) e) (λ q. Ok (map pack_of (take n xs) ++ q ∷ [])) f h.0,
+    grows ∙ ap (λ a. after a (λ q. Ok (map pack_of (take n xs) ++ q ∷ []))) h.0,
     behind ∙ ap (λ q. map pack_of (take n xs) ++ q ∷ []) h.1 ∙ sym before,
   )
   added_last (Err Memory) h = (
@@ -124,46 +124,30 @@ module _ (xs : List Package) (n : ℕ) (x y : Package) (long : n + 1 ≡ length 
     behind ∙ ap (λ q. map pack_of (take n xs) ++ q ∷ []) h.1 ∙ sym before,
   )
 
-  same_name : (r : Result Unit IndexError) → Added (pack_of x) p (extended (pack_of x) e) r (pack_of y) → (pack_of y).0 ≡ (pack_of x).0
+  same_name : (r : Result Unit (ReadError Ground)) → Added (pack_of x) (extended (pack_of x) e) r (pack_of y) → (pack_of y).0 ≡ (pack_of x).0
   same_name (Ok u) h =
       let k = after_taken _ (λ _. Ok (with_entry (pack_of x) e)) (pack_of y) h in
       ap (λ (q : Pack). q.0) (sym (same_value {E = Ground} (with_entry (pack_of x) e) (pack_of y) k.2))
   same_name (Err (Fault f)) h = ap (λ (q : Pack). q.0) h.1
   same_name (Err Memory) h = ap (λ (q : Pack). q.0) h.1
 
-  pub same_names : (r : Result Unit IndexError) → Added (pack_of x) p (extended (pack_of x) e) r (pack_of y) → names (map pack_of (set xs n y)) ≡ names (map pack_of xs)
+  pub same_names : (r : Result Unit (ReadError Ground)) → Added (pack_of x) (extended (pack_of x) e) r (pack_of y) → names (map pack_of (set xs n y)) ≡ names (map pack_of xs)
   same_names r h =
       ap names behind ∙ map_push (λ (q : Pack). q.0) (map pack_of (take n xs)) (pack_of y)
       ∙ ap (λ l. names (map pack_of (take n xs)) ++ l ∷ []) (same_name r h)
       ∙ sym (map_push (λ (q : Pack). q.0) (map pack_of (take n xs)) (pack_of x)) ∙ ap names (sym before)
 
 -- what a record says is taken in
-module _ (ps : List Pack) (p kind : ℕ) (body : List ℕ) (b : Bool) (r : Result Item Ground) (begun : not (eqb (length ps) 0) ≡ b) (told : Tells meaning_of (meaning b kind body) r) where
-  pub says_item : (i : Item) → Ok i ≡ located p r → meaning (not (eqb (length ps) 0)) kind body ≡ Ok (meaning_of i)
-  says_item i h =
-      let e = unplaced p r i h in
-      ap (λ t. meaning t kind body) begun ∙ subst (λ x. Tells meaning_of (meaning b kind body) x) e told
-
-  pub takes_item : (i : Item) → Ok i ≡ located p r → taken_in ps kind body ≡ grown ps (meaning_of i)
-  takes_item i h = ap (λ a. after a (λ m. grown ps m)) (says_item i h)
-
-  pub takes_none : (f : IndexFault) (res : Result Unit IndexError) → Err f ≡ located p r → IsErrAnd res (λ e. e ≡ Fault f) → Added ps p (taken_in ps kind body) res ps
-  takes_none f res h e = by r told h res e
-    where
-      by : (a : Result Item Ground) → Tells meaning_of (meaning b kind body) a → Err f ≡ located p a → (q : Result Unit IndexError) → IsErrAnd q (λ y. y ≡ Fault f) → Added ps p (taken_in ps kind body) q ps
-      by (Ok i) t l q z = absurd (not_both f i l)
-      by (Err g) t l (Ok u) z = absurd z
-      by (Err g) t l (Err (Fault x)) z =
-          let same_fault : fault_at p g ≡ x = cc in
-          (ap (located p) (ap (λ a. after a (λ m. grown ps m)) (ap (λ y. meaning y kind body) begun ∙ t)) ∙ ap Err same_fault, refl)
-      by (Err g) t l (Err Memory) z = absurd (let n : ◌≡◌ {A = ℕ} 0 1 = cc in omega arith)
+module _ (ps : List Pack) (kind : ℕ) (body : List ℕ) (b : Bool) (begun : not (eqb (length ps) 0) ≡ b) where
+  pub takes : (a : Result Meaning Ground) → meaning b kind body ≡ a → taken_in ps kind body ≡ after a (λ m. grown ps m)
+  takes a t = ap (λ r. after r (λ m. grown ps m)) (ap (λ y. meaning y kind body) begun ∙ t)
 
 ruled_outside : (e : model.Entry) → Ruled e → under_pkg (entry_path e) ≡ false
 ruled_outside (dir_entry p) h = h.1
 ruled_outside (file_entry p c) h = h.1
 
 -- an entry that is told has a package before it, and a path outside `/pkg`
-pub told_entry : (ps : List Pack) (kind : ℕ) (body : List ℕ) (e : model.Entry) → meaning (not (eqb (length ps) 0)) kind body ≡ Ok (new_entry e) → (0 < length ps) × (under_pkg (entry_path e) ≡ false)
-told_entry ps kind body e h =
-    let a = ((said_exactly (not (eqb (length ps) 0)) kind body (new_entry e)).0 h).1 in
-    (begun_some ps a.0, ruled_outside e a.1)
+pub told_entry : (ps : List Pack) (kind : ℕ) (body : List ℕ) (b : Bool) (e : model.Entry) → not (eqb (length ps) 0) ≡ b → meaning b kind body ≡ Ok (new_entry e) → (0 < length ps) × (under_pkg (entry_path e) ≡ false)
+told_entry ps kind body b e begun h =
+    let a = ((said_exactly b kind body (new_entry e)).0 h).1 in
+    (begun_some ps (begun ∙ a.0), ruled_outside e a.1)

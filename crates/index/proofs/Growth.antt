@@ -1,6 +1,6 @@
 -- Packages, one record on. Assumes nothing.
-use Rattle.std.proofs.Common.{◌≡◌, ℕ, ◌<◌, ◌≤◌, Bool, true, false, cond, not, eqb, leb, List, [], ◌∷◌, ◌++◌, length, Ok, Err, Result, refl, ap, ◌∙◌, arith}
-use Rattle.std.proofs.lemmas.Bool.{cond-true, cond-false, le-leb, lt-leb, leb-false, ne_eqb, eqb-false, not-true, not_from_false}
+use Rattle.std.proofs.Common.{◌≡◌, ℕ, ◌<◌, Bool, true, false, cond, not, eqb, leb, List, [], ◌∷◌, ◌++◌, length, Ok, Err, Result, refl, ap, ◌∙◌, arith}
+use Rattle.std.proofs.lemmas.Bool.{cond-false, lt-leb, leb-false, ne_eqb, eqb-false, not-true, not_from_false}
 use Rattle.fs.specs.Tree.{has}
 use Rattle.fs.specs.Manifest.{Entry}
 use Rattle.fs.specs.Package.{entry_paths}
@@ -12,12 +12,6 @@ use Rattle.index.specs.Packs.{Pack}
 use Rattle.index.specs.Reading.{admit, with_entry, extended, last_pack, with_last, grown}
 
 module _ (most : ℕ) (x : List ℕ) (before : List (List ℕ)) where
-  pub admit_many : most ≤ length before → admit most x before ≡ Err TooMany
-  admit_many h = cond-true _ _ _ (le-leb most (length before) h)
-
-  pub admit_again : length before < most → has x before ≡ true → admit most x before ≡ Err Repeated
-  admit_again h r = cond-false _ _ _ (lt-leb most (length before) h) ∙ cond-true _ _ _ r
-
   pub admit_one : length before < most → has x before ≡ false → admit most x before ≡ Ok tt
   admit_one h n = cond-false _ _ _ (lt-leb most (length before) h) ∙ cond-false _ _ _ n
 

@@ -9,14 +9,14 @@ use Rattle.fs.specs.Tree.{has}
 use Rattle.fs.specs.Manifest.{Entry}
 use Rattle.fs.specs.Package.{entry_paths, distinct}
 use Rattle.records.specs.Entries.{entry_path}
-use Rattle.records.specs.Faults.{fault_at, located}
+use Rattle.faults.specs.Faults.{fault_at}
+use Rattle.records.specs.Faults.{located, IndexFault}
 use Rattle.records.specs.Items.{after, Meaning, new_package, new_entry, meaning}
 use Rattle.records.specs.Rows.{Row, ended, broken, next, row_from}
 use Rattle.records.specs.Saying.{entry_record, record_of, Ruled, Allowed}
 use Rattle.records.specs.Spelling.{Spells, row_of}
 use Rattle.records.specs.declared.fault.Ground.{Ground}
 use Rattle.records.specs.declared.fault.Ground.TheVariants.{IndexTooLong, PastEnd}
-use Rattle.records.specs.declared.fault.IndexFault.{IndexFault}
 use Rattle.records.proofs.Says.{not_both, says, said_exactly}
 use Rattle.records.proofs.Splits.{whole, contents, split_spelled, spelled_split}
 use Rattle.index.specs.Packs.{Pack, names}

@@ -1,8 +1,11 @@
--- The loops that look for a path and for a name, one step on. Assumes nothing.
-use Rattle.std.proofs.Common.{◌≡◌, ℕ, ◌+◌, ◌<◌, Bool, true, false, cond, ◌||◌, List, [], ◌∷◌, map, length, get_or, drop, is_some, Some, vec_items, vec_len, Vec, sym, refl, ap, ◌∙◌}
+-- What looks for a path and for a name. Assumes nothing.
+use Rattle.std.proofs.Common.{◌≡◌, ℕ, ◌+◌, Bool, true, false, cond, ◌||◌, List, [], ◌∷◌, map, length, is_some, Some, None, Option, Bor, vec_items, vec_len, Vec, sym, refl, ap, ◌∙◌}
+use Rattle.std.specs.List as chain
+use Rattle.std.specs.List.{list_any, find}
+use Rattle.std.specs.Option.{option_map}
 use Rattle.std.specs.declared.alloc.Global.{Global}
-use Rattle.std.proofs.lemmas.List.{at_drop_more, length-map}
-use Rattle.std.proofs.lemmas.Bool.{cond-true, cond-false, or_left}
+use Rattle.std.proofs.lemmas.List.{length-map}
+use Rattle.values.specs.Texts.{name_text}
 use Rattle.fs.specs.Tree.{Path, same, has}
 use Rattle.fs.specs.Package.{entry_paths}
 use Rattle.records.specs.Entries.{entry_of, entry_path}
@@ -12,6 +15,7 @@ use Rattle.index.specs.Listed.{entries_of}
 use Rattle.index.specs.Lookups.{position_from, found}
 use Rattle.index.specs.Packages.{pack_of, packs_of}
 use Rattle.index.specs.Packs.{Pack, names}
+use Rattle.index.specs.Reading.{admission, admit}
 use Rattle.index.proofs.Distinct.{paths_cons, paths_length}
 
 -- how many there are
@@ -24,46 +28,29 @@ names_length v = length-map (packs_of v) (λ (p : Pack). p.0) ∙ packs_length v
 pub entries_length : (v : Vec Entry Global) → length (entry_paths (entries_of v)) ≡ vec_len v
 entries_length v = paths_length (entries_of v) ∙ length-map (vec_items v) entry_of ∙ sym v.ok.0
 
--- a path among those of entries; q is the path of the entry at hand
-module _ (p : Path) (xs : List Entry) (i : ℕ) (x : Entry) (within : i < length xs) (read : x ≡ get_or xs i x) (q : Path) (at : q ≡ entry_path (entry_of x)) where
-  step : has p (entry_paths (map entry_of (drop i xs))) ≡ (same p q || has p (entry_paths (map entry_of (drop (i + 1) xs))))
-  step =
-      at_drop_more (λ ys. has p (entry_paths (map entry_of ys))) xs i x within
-      ∙ ap (has p) (paths_cons (entry_of (get_or xs i x)) (map entry_of (drop (i + 1) xs)))
-      ∙ ap (λ y. same p (entry_path (entry_of y)) || has p (entry_paths (map entry_of (drop (i + 1) xs)))) (sym read)
-      ∙ ap (λ y. same p y || has p (entry_paths (map entry_of (drop (i + 1) xs)))) (sym at)
+-- what the chains that look for a path and for a name find
+pub listed_any : (p : Path) (xs : List Entry) → list_any (λ x. same p (entry_path (entry_of x))) xs ≡ has p (entry_paths (map entry_of xs))
+listed_any p [] = refl
+listed_any p (x ∷ xs) = ap (λ b. same p (entry_path (entry_of x)) || b) (listed_any p xs) ∙ sym (ap (has p) (paths_cons (entry_of x) (map entry_of xs)))
 
-  pub path_found : true ≡ same p q → has p (entry_paths (map entry_of (drop i xs))) ≡ true
-  path_found t = step ∙ or_left (same p q) (has p (entry_paths (map entry_of (drop (i + 1) xs)))) (sym t)
+pub named_at : (n : List ℕ) (i : ℕ) (xs : List Package) → chain.position_from (λ x. same n (name_text x.name)) i xs ≡ position_from i n (map pack_of xs)
+named_at n i [] = refl
+named_at n i (x ∷ xs) = ap (cond (same n (name_text x.name)) (Some i)) (named_at n (i + 1) xs)
 
-  pub path_passed : false ≡ same p q → has p (entry_paths (map entry_of (drop (i + 1) xs))) ≡ has p (entry_paths (map entry_of (drop i xs)))
-  path_passed f = sym (step ∙ ap (λ b. b || has p (entry_paths (map entry_of (drop (i + 1) xs)))) (sym f))
+found_in : (n : List ℕ) (xs : List Package) → option_map pack_of (find (λ x. same n (name_text x.name)) xs) ≡ found n (map pack_of xs)
+found_in n [] = refl
+found_in n (x ∷ xs) = by (same n (name_text x.name)) (found_in n xs)
+  where
+    by : (b : Bool) → option_map pack_of (find (λ y. same n (name_text y.name)) xs) ≡ found n (map pack_of xs) → option_map pack_of (cond b (Some x) (find (λ y. same n (name_text y.name)) xs)) ≡ cond b (Some (pack_of x)) (found n (map pack_of xs))
+    by true h = refl
+    by false h = h
 
--- a name among those of packages; q is the name of the package at hand
-module _ (n : List ℕ) (xs : List Package) (i : ℕ) (x : Package) (within : i < length xs) (read : x ≡ get_or xs i x) (q : List ℕ) (at : q ≡ (pack_of x).0) where
-  found_step : found n (map pack_of (drop i xs)) ≡ cond (same n q) (Some (pack_of x)) (found n (map pack_of (drop (i + 1) xs)))
-  found_step =
-      at_drop_more (λ ys. found n (map pack_of ys)) xs i x within
-      ∙ ap (λ y. cond (same n (pack_of y).0) (Some (pack_of y)) (found n (map pack_of (drop (i + 1) xs)))) (sym read)
-      ∙ ap (λ y. cond (same n y) (Some (pack_of x)) (found n (map pack_of (drop (i + 1) xs)))) (sym at)
-
-  pub name_found : true ≡ same n q → found n (map pack_of (drop i xs)) ≡ Some (pack_of x)
-  name_found t = found_step ∙ cond-true _ _ _ (sym t)
-
-  pub name_passed : false ≡ same n q → found n (map pack_of (drop (i + 1) xs)) ≡ found n (map pack_of (drop i xs))
-  name_passed f = sym (found_step ∙ cond-false _ _ _ (sym f))
-
-  position_step : position_from i n (map pack_of (drop i xs)) ≡ cond (same n q) (Some i) (position_from (i + 1) n (map pack_of (drop (i + 1) xs)))
-  position_step =
-      at_drop_more (λ ys. position_from i n (map pack_of ys)) xs i x within
-      ∙ ap (λ y. cond (same n (pack_of y).0) (Some i) (position_from (i + 1) n (map pack_of (drop (i + 1) xs)))) (sym read)
-      ∙ ap (λ y. cond (same n y) (Some i) (position_from (i + 1) n (map pack_of (drop (i + 1) xs)))) (sym at)
-
-  pub position_found : true ≡ same n q → position_from i n (map pack_of (drop i xs)) ≡ Some i
-  position_found t = position_step ∙ cond-true _ _ _ (sym t)
-
-  pub position_passed : false ≡ same n q → position_from (i + 1) n (map pack_of (drop (i + 1) xs)) ≡ position_from i n (map pack_of (drop i xs))
-  position_passed f = sym (position_step ∙ cond-false _ _ _ (sym f))
+pub named : (n : List ℕ) (xs : List Package) (o : Option (Bor Package)) → option_map (λ x. x.now) o ≡ find (λ x. same n (name_text x.name)) xs → option_map (λ x. pack_of x.now) o ≡ found n (map pack_of xs)
+named n xs o h = packed o ∙ ap (option_map pack_of) h ∙ found_in n xs
+  where
+    packed : (r : Option (Bor Package)) → option_map (λ x. pack_of x.now) r ≡ option_map pack_of (option_map (λ x. x.now) r)
+    packed None = refl
+    packed (Some x) = refl
 
 -- a name has a position where it is one of the names
 pub position_has : (i : ℕ) (n : List ℕ) (ps : List Pack) → is_some (position_from i n ps) ≡ has n (names ps)
@@ -73,3 +60,10 @@ position_has i n (p ∷ ps) = by (same n p.0) (position_has (i + 1) n ps)
     by : (b : Bool) → is_some (position_from (i + 1) n ps) ≡ has n (names ps) → is_some (cond b (Some i) (position_from (i + 1) n ps)) ≡ (b || has n (names ps))
     by true h = refl
     by false h = h
+
+-- whether one more is admitted, by what there is
+pub entry_admitted : (v : Vec Entry Global) (p q : Path) (n : ℕ) (again : Bool) → n ≡ vec_len v → q ≡ p → again ≡ has q (entry_paths (entries_of v)) → admission 16 n again ≡ admit 16 p (entry_paths (entries_of v))
+entry_admitted v p q n again l e h = λ i. admission 16 ((l ∙ sym (entries_length v)) i) ((h ∙ ap (λ x. has x (entry_paths (entries_of v))) e) i)
+
+pub package_admitted : (v : Vec Package Global) (n : ℕ) (x : List ℕ) (at : Option ℕ) (again : Bool) → n ≡ vec_len v → at ≡ position_from 0 x (packs_of v) → again ≡ is_some at → admission 8 n again ≡ admit 8 x (names (packs_of v))
+package_admitted v n x at again l e h = λ i. admission 8 ((l ∙ sym (names_length v)) i) ((h ∙ ap is_some e ∙ position_has 0 x (packs_of v)) i)

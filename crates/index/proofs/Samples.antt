@@ -1,7 +1,7 @@
 -- The definition of reading, run on small indexes. Assumes nothing.
 use Rattle.std.proofs.Common.{◌≡◌, ℕ, List, [], ◌∷◌, ◌++◌, Ok, Err, codes, refl}
 use Rattle.fs.specs.Manifest.{dir_entry, file_entry}
-use Rattle.records.specs.Faults.{fault_at}
+use Rattle.faults.specs.Faults.{fault_at}
 use Rattle.records.specs.Rows.{row}
 use Rattle.records.specs.declared.fault.Ground.TheVariants.{PastEnd, NoPackage, Reserved, Repeated}
 use Rattle.index.specs.Reading.{read_bytes}

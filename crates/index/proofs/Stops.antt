@@ -2,13 +2,13 @@
 use Rattle.std.proofs.Common.{◌≡◌, ℕ, ◌+◌, ◌<◌, Bool, true, false, cond, ltb, ◌⊎◌, List, [], ◌∷◌, ◌++◌, length, Ok, Err, Result, sym, refl, ap, ◌∙◌, subst, inl, inr, arith}
 use Rattle.std.proofs.lemmas.List.{append-nil, append_assoc, length-append}
 use Rattle.std.proofs.lemmas.Bool.{ltb-true, ltb-false}
-use Rattle.records.specs.Faults.{ground_number, fault_at, located}
+use Rattle.faults.specs.Faults.{fault_at}
+use Rattle.records.specs.Faults.{ground_number, located, IndexFault}
 use Rattle.records.specs.Items.{after}
 use Rattle.records.specs.Rows.{Row, ended, broken, next, row, row_from}
 use Rattle.records.specs.Spelling.{Begins, Spells}
 use Rattle.records.specs.declared.fault.Ground.{Ground}
 use Rattle.records.specs.declared.fault.Ground.TheVariants.{IndexTooLong, PastEnd}
-use Rattle.records.specs.declared.fault.IndexFault.{IndexFault}
 use Rattle.records.proofs.Says.{not_both}
 use Rattle.records.proofs.Splits.{row_begins, row_cut}
 use Rattle.index.specs.Law.{index_records, Legal}
@@ -28,7 +28,7 @@ record Stop (qs : List Pack) (bs : List ℕ) (p : ℕ) (f : IndexFault) : Type 0
   done : List (ℕ × List ℕ)
   packs : List Pack
   parts : bs ≡ front ++ rest
-  place : f.place ≡ p + length front
+  place : f.at ≡ p + length front
   spells : Spells done front
   grew : index_records packs ≡ index_records qs ++ done
   legal : Legal packs
@@ -42,7 +42,7 @@ at_once qs bs p q g f s l e w = record {
   done = [];
   packs = qs;
   parts = refl;
-  place = sym (ap (λ (x : IndexFault). x.place) e) ∙ here;
+  place = sym (ap (λ (x : IndexFault). x.at) e) ∙ here;
   spells = refl;
   grew = sym (append-nil (index_records qs));
   legal = l;

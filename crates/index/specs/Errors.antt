@@ -1,17 +1,22 @@
 -- The numbers of an index's errors, and what a call that adds something answers. Assumes nothing.
-use Rattle.std.specs.Prelude.{◌≡◌, ℕ, true, is_ok, Some, None, Ok, Err, Option, Result}
-use Rattle.records.specs.Faults.{ground_number, located}
+use Rattle.std.specs.Prelude.{◌≡◌, ℕ, true, is_ok, Ok, Err, Option, Result}
+use Rattle.faults.specs.Faults.{error_number, fault_at}
+use Rattle.faults.specs.declared.error.ReadError.{ReadError}
+use Rattle.faults.specs.declared.error.ReadError.TheVariants.{Fault, Memory}
+use Rattle.records.specs.Faults.{fault_number, IndexFault}
 use Rattle.records.specs.declared.fault.Ground.{Ground}
-use Rattle.index.specs.declared.error.IndexError.{IndexError}
-use Rattle.index.specs.declared.error.IndexError.TheVariants.{Fault, Memory}
 
--- want of memory has no number
-abbrev pub index_error_number : IndexError → Option ℕ
-index_error_number (Fault f) = Some (ground_number f.ground)
-index_error_number Memory = None
+-- that of the fault; want of memory has no number
+abbrev pub index_error_number : ReadError IndexFault → Option ℕ
+index_error_number e = error_number fault_number e
 
--- x became y by an addition that answers a; a refusal, at the place p, leaves x, and memory can only be wanting where there is none
-abbrev pub Added : {X : Type 0} → X → ℕ → Result X Ground → Result Unit IndexError → X → Type 0
-Added x p a (Ok u) y = a ≡ Ok y
-Added x p a (Err (Fault f)) y = (located p a ≡ Err f) × (y ≡ x)
-Added x p a (Err Memory) y = (is_ok a ≡ true) × (y ≡ x)
+-- the error of the record at the place p
+abbrev pub error_at : ℕ → ReadError Ground → ReadError IndexFault
+error_at p (Fault g) = Fault (fault_at p g)
+error_at p Memory = Memory
+
+-- x became y by an addition that answers a; a refusal leaves x, and memory can only be wanting where there is none
+abbrev pub Added : {X : Type 0} → X → Result X Ground → Result Unit (ReadError Ground) → X → Type 0
+Added x a (Ok u) y = a ≡ Ok y
+Added x a (Err (Fault g)) y = (a ≡ Err g) × (y ≡ x)
+Added x a (Err Memory) y = (is_ok a ≡ true) × (y ≡ x)

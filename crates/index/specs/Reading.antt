@@ -1,20 +1,24 @@
 -- What bytes are read as: the packages of an index, or the first fault. Assumes nothing.
-use Rattle.std.specs.Prelude.{ℕ, cond, not, List, [], ◌∷◌, ◌++◌, length, Ok, Err, Result, ◌==◌, nat_le, nat_lt}
+use Rattle.std.specs.Prelude.{ℕ, Bool, cond, not, List, [], ◌∷◌, ◌++◌, length, Ok, Err, Result, ◌==◌, nat_le, nat_lt}
 use Rattle.fs.specs.Tree.{has}
 use Rattle.fs.specs.Manifest.{Entry}
 use Rattle.fs.specs.Package.{entry_paths}
 use Rattle.records.specs.Entries.{entry_path}
-use Rattle.records.specs.Faults.{fault_at, located}
+use Rattle.faults.specs.Faults.{fault_at}
+use Rattle.records.specs.Faults.{located, IndexFault}
 use Rattle.records.specs.Items.{after, Meaning, new_package, new_entry, meaning}
 use Rattle.records.specs.Rows.{Row, ended, broken, next, row_from}
 use Rattle.records.specs.declared.fault.Ground.{Ground}
 use Rattle.records.specs.declared.fault.Ground.TheVariants.{IndexTooLong, PastEnd, TooMany, Repeated}
-use Rattle.records.specs.declared.fault.IndexFault.{IndexFault}
 use Rattle.index.specs.Packs.{Pack, names}
 
--- may x come behind those that came before, of which there are `most` at most
+-- may there be one more behind `len` others, of which there are `most` at most
+abbrev pub admission : (most len : ℕ) (repeated : Bool) → Result Unit Ground
+admission most len repeated = cond (nat_le most len) (Err TooMany) (cond repeated (Err Repeated) (Ok tt))
+
+-- may x come behind those that came before
 abbrev pub admit : ℕ → List ℕ → List (List ℕ) → Result Unit Ground
-admit most x before = cond (nat_le most (length before)) (Err TooMany) (cond (has x before) (Err Repeated) (Ok tt))
+admit most x before = admission most (length before) (has x before)
 
 -- a package with one more entry
 abbrev pub with_entry : Pack → Entry → Pack

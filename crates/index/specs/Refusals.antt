@@ -5,11 +5,11 @@ use Rattle.values.specs.Rules.{is_name, is_path, is_content}
 use Rattle.fs.specs.Change.{first_ground}
 use Rattle.fs.specs.Package.{entry_paths, under_pkg}
 use Rattle.fs.specs.Tree.{Path, has}
-use Rattle.records.specs.Faults.{ground_number, fault_at}
+use Rattle.faults.specs.Faults.{fault_at}
+use Rattle.records.specs.Faults.{ground_number, IndexFault}
 use Rattle.records.specs.Spelling.{Begins, Cut}
 use Rattle.records.specs.declared.fault.Ground.{Ground}
 use Rattle.records.specs.declared.fault.Ground.TheVariants.{IndexTooLong}
-use Rattle.records.specs.declared.fault.IndexFault.{IndexFault}
 use Rattle.index.specs.Law.{Written}
 use Rattle.index.specs.Packs.{Pack, names}
 use Rattle.index.specs.Reading.{last_pack, taken_in, read_bytes}
@@ -69,7 +69,7 @@ pub record Stopped (bytes : List ℕ) (f : IndexFault) : Type 0 where
   pub rest : List ℕ
   pub packs : List Pack
   pub parts : bytes ≡ front ++ rest
-  pub place : f.place ≡ length front
+  pub place : f.at ≡ length front
   pub before : Written front packs
   pub faulty : Faulty packs rest (ground_number f.ground)
 

@@ -1,43 +1,18 @@
 ghost use Rattle.std.specs.Prelude.{◌≡◌};
-ghost use Rattle.index.specs.Errors.{index_error_number};
-ghost use Rattle.index.specs.declared.error.IndexError.TheVariants.{Fault, Memory};
+ghost use Rattle.index.specs.Errors.{error_at};
 
-use records::IndexFault;
-use std::alloc::AllocFailed;
+use faults::{Numbered, ReadError};
+use records::{Ground, IndexFault};
 
 // Why no index is read.
-#[derive(Clone, Copy, PartialEq, Eq, Debug)]
-pub enum IndexError {
-    // The bytes are refused.
-    Fault(IndexFault),
-    // Memory is wanting, which is no fault of the bytes.
-    Memory,
-}
+pub type IndexError = ReadError<IndexFault>;
 
-impl IndexError {
-    // The number of the refusal; want of memory has none.
-    pub fn number(self) -> Option<u8>
-        ensures { result ≡ index_error_number self }
-    {
-        match self {
-            IndexError::Fault(f) => Some(f.ground.number()),
-            IndexError::Memory => None,
-        }
-    }
-}
-
-impl From<IndexFault> for IndexError {
-    ghost from_gives = { λ f e. e ≡ Fault f };
-
-    fn from(fault: IndexFault) -> IndexError {
-        IndexError::Fault(fault)
-    }
-}
-
-impl<T: Drop> From<AllocFailed<T>> for IndexError {
-    ghost from_gives = { λ _ e. e ≡ Memory };
-
-    fn from(_refused: AllocFailed<T>) -> IndexError {
-        IndexError::Memory
+// The error of the record at this place.
+pub(crate) fn error_at(error: ReadError<Ground>, place: usize) -> IndexError
+    ensures { result ≡ error_at place error }
+{
+    match error {
+        ReadError::Fault(ground) => ReadError::Fault(ground.at(place)),
+        ReadError::Memory => ReadError::Memory,
     }
 }

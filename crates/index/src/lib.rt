@@ -6,6 +6,7 @@ ghost use Rattle.index.specs.Refusals.{RefusedByFirstGround, RefusedAtFirstFault
 
 pub mod error;
 pub mod index;
+mod limits;
 pub mod packages;
 
 pub use error::IndexError;
@@ -14,36 +15,26 @@ pub use packages::Package;
 pub use records::{Entry, Ground, IndexFault};
 
 // Bytes are read as packages exactly where they are a row of well-formed records that spells these packages, within the limits and without repeats.
-pub fn read_exactly() -> u8
+pub fn read_exactly()
     ensures { ReadExactly }
-{
-    0
-}
+{}
 
 // Every index that can be held keeps the limits and the rules, and repeats nothing.
-pub fn held_legally() -> u8
+pub fn held_legally()
     ensures { HeldLegally }
-{
-    0
-}
+{}
 
 // Every package that can be held is proper: no two of its steps have the same path, those of `/pkg` and of its marker included.
-pub fn properly_held() -> u8
+pub fn properly_held()
     ensures { ProperlyHeld }
-{
-    0
-}
+{}
 
 // A whole record is refused by the first of its grounds that stands, and taken where none does.
-pub fn refused_by_first_ground() -> u8
+pub fn refused_by_first_ground()
     ensures { RefusedByFirstGround }
-{
-    0
-}
+{}
 
 // Bytes that are refused are too many, or those before the place are an index of their own and the record there is at fault.
-pub fn refused_at_first_fault() -> u8
+pub fn refused_at_first_fault()
     ensures { RefusedAtFirstFault }
-{
-    0
-}
+{}

@@ -3,7 +3,8 @@
 
 #[cfg(test)]
 mod tests {
-    use index::{Entry, Index};
+    use faults::Numbered;
+    use index::{Entry, Index, IndexError};
     use std::alloc::{AllocError, Global};
     use std::test::Fail;
     use values::Name;
@@ -11,29 +12,22 @@ mod tests {
     // A want of memory, which has no number.
     const MEMORY: u8 = 255;
 
+    // Adds the bytes before a body of this many bytes.
+    fn put_lead(bytes: &mut Vec<u8>, size: usize, kind: u8) -> Result<(), AllocError> {
+        let [low, high] = ((size % 65536) as u16).to_le_bytes();
+        bytes.extend_from_slice(&[low, high, kind, 0])
+    }
+
     // Adds a record.
     fn put(bytes: &mut Vec<u8>, kind: u8, body: &[u8]) -> Result<(), AllocError> {
-        let lead = [
-            (body.len() % 256) as u8,
-            (body.len() / 256 % 256) as u8,
-            kind,
-            0,
-        ];
-        bytes.extend_from_slice(&lead)?;
+        put_lead(bytes, body.len(), kind)?;
         bytes.extend_from_slice(body)
     }
 
     // Adds a file's record.
     fn put_file(bytes: &mut Vec<u8>, path: &[u8], content: &[u8]) -> Result<(), AllocError> {
-        let size = path.len() + content.len() + 1;
-        let lead = [
-            (size % 256) as u8,
-            (size / 256 % 256) as u8,
-            3,
-            0,
-            (path.len() % 256) as u8,
-        ];
-        bytes.extend_from_slice(&lead)?;
+        put_lead(bytes, path.len() + content.len() + 1, 3)?;
+        bytes.extend_from_slice(&[(path.len() % 256) as u8])?;
         bytes.extend_from_slice(path)?;
         bytes.extend_from_slice(content)
     }
@@ -43,12 +37,10 @@ mod tests {
         let [kind, body @ ..] = word else {
             return Ok(());
         };
-        for (i, b) in body.iter().enumerate() {
-            if *b == b'=' {
-                return put_file(bytes, &body[0..i], &body[i + 1..body.len()]);
-            }
+        match body.iter().position(|b| *b == b'=') {
+            Some(i) => put_file(bytes, &body[..i], &body[i + 1..]),
+            None => put(bytes, kind.wrapping_sub(b'0'), body),
         }
-        put(bytes, kind.wrapping_sub(b'0'), body)
     }
 
     // The records of a row of words.
@@ -64,8 +56,8 @@ mod tests {
     fn verdict(heap: Global, bytes: &[u8]) -> (u8, usize) {
         match Index::read(heap, bytes) {
             Ok(index) => (0, index.len()),
-            Err(index::IndexError::Fault(fault)) => (fault.ground.number(), fault.place),
-            Err(index::IndexError::Memory) => (MEMORY, 0),
+            Err(IndexError::Fault(fault)) => (fault.number(), fault.at),
+            Err(IndexError::Memory) => (MEMORY, 0),
         }
     }
 
@@ -266,7 +258,7 @@ mod tests {
         index: &Index,
         name: &str,
     ) -> Result<(Option<usize>, Vec<u8>), Fail> {
-        let name = Name::parse(name.as_bytes())?;
+        let name = Name::try_from(name.as_bytes())?;
         let mut text = Vec::new(heap);
         if let Some(found) = index.package(&name) {
             text.extend_from_slice(found.name().as_bytes())?;

@@ -1,4 +1,3 @@
 pub mod Rows
-pub mod Items
 pub mod Splits
 pub mod Says

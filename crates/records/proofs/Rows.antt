@@ -1,7 +1,8 @@
 -- A row of records, one record on. Assumes nothing.
-use Rattle.std.proofs.Common.{◌≡◌, ℕ, zero, suc, ◌+◌, ◌-◌, ◌<◌, ◌≤◌, List, [], ◌∷◌, length, get_or, take, drop, sym, refl, ap, ◌∙◌, add-zero, arith}
-use Rattle.std.proofs.lemmas.List.{length-drop, drop_more, drop-drop, at_drop_all}
-use Rattle.std.proofs.lemmas.Bool.{cond-true, cond-false, lt-ltb, le-ltb}
+use Rattle.std.proofs.Common.{◌≡◌, ℕ, zero, suc, ◌+◌, ◌-◌, ◌<◌, ◌≤◌, List, [], ◌∷◌, length, get_or, take, drop, Bor, sym, refl, ap, ◌∙◌, ⊎_elim, add-zero, arith}
+use Rattle.std.proofs.lemmas.List.{length-drop, drop_all, drop-drop, take_all}
+use Rattle.std.proofs.lemmas.Bool.{cases_lt, cond-true, cond-false, lt-ltb, le-ltb}
+use Rattle.records.specs.Heads.{Head}
 use Rattle.records.specs.Rows.{ended, broken, next, word, row, row_from}
 
 -- the bytes of a record that is done are passed over
@@ -28,35 +29,75 @@ module _ (a b c d : ℕ) (p : ℕ) (bs : List ℕ) where
   unfolding row
   row_more h = cond-false _ _ _ (le-ltb (length bs) (word a b) h) ∙ ap (next p (word c d) (take (word a b) bs)) (row_skip (word a b) (p + 4) bs)
 
--- what stands in the bytes at p
-module _ (bytes : List ℕ) (p : ℕ) where
-  pub row_end : length bytes ≤ p → row_from bytes p ≡ ended
+pub none_past_end : (bytes : List ℕ) (p : ℕ) → length bytes ≤ p → row_from bytes p ≡ ended
+unfolding row
+none_past_end bytes p h = ap (row 0 p) (drop_all p bytes h)
+
+-- a record that passes the end begins before it
+pub broken_within : (bytes : List ℕ) (p q : ℕ) → row_from bytes p ≡ broken q → p < length bytes
+broken_within bytes p q h = ⊎_elim (λ l. l) (λ l. absurd (not_ended (sym (none_past_end bytes p l) ∙ h))) (cases_lt p (length bytes))
+  where
+    not_ended : ended ≡ broken q → ⊥
+    not_ended e = cc
+
+-- what stands there
+module _ (p : ℕ) (ys : List ℕ) where
+  pub row_end : length ys < 1 → row 0 p ys ≡ ended
   unfolding row
-  row_end h = at_drop_all (row 0 p) bytes p h
+  row_end h = by ys h
+    where
+      by : (xs : List ℕ) → length xs < 1 → row 0 p xs ≡ ended
+      by [] l = refl
+      by (x ∷ xs) l = absurd (omega arith)
 
-  pub row_left : p < length bytes → length bytes - p < 4 → row_from bytes p ≡ broken p
-  row_left h l = let left = length-drop p bytes in row_short p (drop p bytes) (omega arith) (omega arith)
+  module _ (lead : 4 ≤ length ys) where
+    header : ys ≡ get_or ys 0 0 ∷ get_or ys 1 0 ∷ get_or ys 2 0 ∷ get_or ys 3 0 ∷ drop 4 ys
+    header = by ys lead
+      where
+        by : (xs : List ℕ) → 4 ≤ length xs → xs ≡ get_or xs 0 0 ∷ get_or xs 1 0 ∷ get_or xs 2 0 ∷ get_or xs 3 0 ∷ drop 4 xs
+        by [] l = absurd (omega arith)
+        by (a ∷ []) l = absurd (omega arith)
+        by (a ∷ b ∷ []) l = absurd (omega arith)
+        by (a ∷ b ∷ c ∷ []) l = absurd (omega arith)
+        by (a ∷ b ∷ c ∷ d ∷ xs) l = refl
 
-  header : p + 4 ≤ length bytes → drop p bytes ≡ get_or bytes p 0 ∷ get_or bytes (p + 1) 0 ∷ get_or bytes (p + 2) 0 ∷ get_or bytes (p + 2 + 1) 0 ∷ drop (p + 4) bytes
-  header h =
-      let two : p + 1 + 1 ≡ p + 2 = omega arith in
-      let four : p + 2 + 1 + 1 ≡ p + 4 = omega arith in
-      drop_more bytes p 0 (omega arith) ∙ ap (λ t. get_or bytes p 0 ∷ t) (
-      drop_more bytes (p + 1) 0 (omega arith) ∙ ap (λ t. get_or bytes (p + 1) 0 ∷ t) (ap (λ k. drop k bytes) two ∙
-      drop_more bytes (p + 2) 0 (omega arith) ∙ ap (λ t. get_or bytes (p + 2) 0 ∷ t) (
-      drop_more bytes (p + 2 + 1) 0 (omega arith) ∙ ap (λ t. get_or bytes (p + 2 + 1) 0 ∷ t) (ap (λ k. drop k bytes) four))))
+    abbrev size : ℕ
+    size = word (get_or ys 0 0) (get_or ys 1 0)
 
-  -- with the size and the kind that are read there
-  module _ (size kind : ℕ) (s : size ≡ word (get_or bytes p 0) (get_or bytes (p + 1) 0)) (k : kind ≡ word (get_or bytes (p + 2) 0) (get_or bytes (p + 2 + 1) 0)) (lead : p + 4 ≤ length bytes) where
-    pub row_past : length bytes - p - 4 < size → row_from bytes p ≡ broken p
+    abbrev kind : ℕ
+    kind = word (get_or ys 2 0) (get_or ys 3 0)
+
+    pub row_past : length ys < 4 + size → row 0 p ys ≡ broken p
     row_past h =
-        let rest = length-drop (p + 4) bytes in
-        ap (row 0 p) (header lead) ∙ row_over _ _ _ _ p (drop (p + 4) bytes) (omega arith)
+        let many = length-drop 4 ys in
+        ap (row 0 p) header ∙ row_over _ _ _ _ p (drop 4 ys) (omega arith)
 
-    pub row_next : size ≤ length bytes - p - 4 → row_from bytes p ≡ next p kind (take (p + 4 + size - (p + 4)) (drop (p + 4) bytes)) (row_from bytes (p + 4 + size))
+    pub row_next : 4 + size ≤ length ys → row 0 p ys ≡ next p kind (take size (drop 4 ys)) (row 0 (p + 4 + size) (drop (4 + size) ys))
     row_next h =
-        let rest = length-drop (p + 4) bytes in
-        let same : size ≡ p + 4 + size - (p + 4) = omega arith in
-        ap (row 0 p) (header lead) ∙ row_more _ _ _ _ p (drop (p + 4) bytes) (omega arith)
-        ∙ (λ i. next p (sym k i) (take (sym s i) (drop (p + 4) bytes)) (row 0 (p + 4 + sym s i) (drop (sym s i) (drop (p + 4) bytes))))
-        ∙ (λ i. next p kind (take (same i) (drop (p + 4) bytes)) (row 0 (p + 4 + size) (drop-drop size (p + 4) bytes i)))
+        let many = length-drop 4 ys in
+        ap (row 0 p) header ∙ row_more _ _ _ _ p (drop 4 ys) (omega arith)
+        ∙ ap (λ l. next p kind (take size (drop 4 ys)) (row 0 (p + 4 + size) l)) (drop-drop size 4 ys)
+
+-- all that stands behind the four leading bytes
+pub behind_lead : (ys : List ℕ) → take (length ys - 4) (drop 4 ys) ≡ drop 4 ys
+behind_lead ys = let many = length-drop 4 ys in take_all (length ys - 4) (drop 4 ys) (omega arith)
+
+-- a record that is read there, and lies within the bytes
+pub head : (bytes : List ℕ) (p : ℕ) (ys : List ℕ) (m k n : ℕ) (body : Bor (List ℕ)) → ys ≡ drop p bytes → 4 ≤ length ys → m ≡ word (get_or ys 0 0) (get_or ys 1 0) → k ≡ word (get_or ys 2 0) (get_or ys 3 0) → m ≤ length (take (length ys - 4) (drop 4 ys)) → body.now ≡ take (m - 0) (take (length ys - 4) (drop 4 ys)) → n ≡ p + 4 + m → Head bytes p (record { place = p; kind = k; body = body; next = n })
+head bytes p ys m k n body at lead s t fits b e =
+    let total : length ys ≡ length (drop p bytes) = ap length at in
+    let behind : length (take (length ys - 4) (drop 4 ys)) ≡ length (drop 4 ys) = ap length (behind_lead ys) in
+    let some = length-drop 4 ys in
+    let many = length-drop p bytes in
+    let all : m - 0 ≡ m = omega arith in
+    let whole : p + (4 + m) ≡ n = omega arith in
+    let is : body.now ≡ take m (drop 4 ys) = b ∙ (λ i. take (all i) (behind_lead ys i)) in
+    record {
+      place = refl;
+      row =
+          ap (row 0 p) (sym at) ∙ row_next p ys lead (omega arith)
+          ∙ (λ i. next p (sym t i) (take (sym s i) (drop 4 ys)) (row 0 (p + 4 + sym s i) (drop (4 + sym s i) ys)))
+          ∙ (λ i. next p k (sym is i) (row 0 (sym e i) ((ap (drop (4 + m)) at ∙ drop-drop (4 + m) p bytes ∙ ap (λ j. drop j bytes) whole) i)));
+      forward = omega arith;
+      within = omega arith;
+    }

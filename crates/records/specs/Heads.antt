@@ -1,9 +1,9 @@
 -- What is read of a row at a place. Assumes nothing.
 use Rattle.std.specs.Prelude.{◌≡◌, ℕ, ◌<◌, ◌≤◌, List, length, Some, None, Ok, Err, Option, Result}
 use Rattle.records.specs.declared.fault.Ground.TheVariants.{PastEnd}
-use Rattle.records.specs.declared.fault.IndexFault.{IndexFault}
 use Rattle.records.specs.declared.row.Record.{Record}
-use Rattle.records.specs.Faults.{fault_at}
+use Rattle.faults.specs.Faults.{fault_at}
+use Rattle.records.specs.Faults.{IndexFault}
 use Rattle.records.specs.Rows.{ended, broken, next, row_from}
 
 -- the row at p begins with this record, which lies within the bytes, and goes on past it

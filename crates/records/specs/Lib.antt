@@ -2,6 +2,8 @@ pub mod Entries
 pub mod Faults
 pub mod Rows
 pub mod Heads
+pub mod Lefts
+pub mod Kinds
 pub mod Items
 pub mod Spelling
 pub mod Saying

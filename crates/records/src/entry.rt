@@ -16,8 +16,7 @@ impl Entry {
         ensures { path_text result ≡ entry_path (entry_of self.now) }
     {
         match *self {
-            Entry::Directory(path) => path,
-            Entry::File(path, _) => path,
+            Entry::Directory(path) | Entry::File(path, _) => path,
         }
     }
 }

@@ -1,8 +1,9 @@
-ghost use Rattle.std.specs.Prelude.{◌≡◌, ℕ, Result as Outcome};
-ghost use Rattle.records.specs.Faults.{ground_number, located};
+ghost use Rattle.std.specs.Prelude.{◌≡◌};
+ghost use Rattle.faults.specs.declared.error.ReadError.TheVariants.{Fault};
+ghost use Rattle.records.specs.Faults.{ground_number};
 ghost use Rattle.records.specs.declared.fault.Ground.TheVariants.{Value};
-ghost use Rattle.records.specs.declared.fault.IndexFault.{IndexFault as Located};
 
+use faults::{Located, Numbered, ReadError};
 use values::ValueFault;
 
 // Why an index is refused.
@@ -26,18 +27,13 @@ pub enum Ground {
     Repeated,
 }
 
-// A ground, with the place of the refused record's first byte.
-#[derive(Clone, Copy, PartialEq, Eq, Debug)]
-pub struct IndexFault {
-    pub place: usize,
-    pub ground: Ground,
-}
+// A ground, at the place of the refused record's first byte.
+pub type IndexFault = Located<Ground, usize>;
 
-impl Ground {
-    // The number of the refusal.
-    pub fn number(self) -> u8
-        ensures { result ≡ ground_number self }
-    {
+impl Numbered for Ground {
+    ghost number_of = { ground_number };
+
+    fn number(self) -> u8 {
         match self {
             Ground::IndexTooLong => 3,
             Ground::PastEnd => 4,
@@ -60,21 +56,10 @@ impl From<ValueFault> for Ground {
     }
 }
 
-// Gives a refusal the place of its record.
-pub trait AtPlace<T> {
-    ghost placed: { ℕ → Self → Outcome T Located → Type 0 };
+impl From<Ground> for ReadError<Ground> {
+    ghost from_gives = { λ g e. e ≡ Fault g };
 
-    fn at(self, place: usize) -> Result<T, IndexFault>
-        ensures { placed place self result };
-}
-
-impl<T> AtPlace<T> for Result<T, Ground> {
-    ghost placed = { λ p s r. r ≡ located p s };
-
-    fn at(self, place: usize) -> Result<T, IndexFault> {
-        match self {
-            Ok(value) => Ok(value),
-            Err(ground) => Err(IndexFault { place, ground }),
-        }
+    fn from(refusal: Ground) -> ReadError<Ground> {
+        ReadError::Fault(refusal)
     }
 }

@@ -3,17 +3,12 @@ ghost use Rattle.std.specs.Prelude.{◌≡◌};
 ghost use Rattle.values.specs.Texts.{path_text};
 ghost use Rattle.fs.specs.Package.{under_pkg};
 ghost use Rattle.records.specs.Entries.{entry_of};
-ghost use Rattle.records.specs.Items.{Tells, meaning_of, meaning, path_check, directory_body, file_body, entry_body};
+ghost use Rattle.records.specs.Items.{Tells, meaning_of, meaning, path_check, directory_body, file_parts, file_body};
 
 use crate::entry::Entry;
 use crate::fault::Ground;
+use crate::kind::RecordKind;
 use values::{Content, Name, Path};
-
-const KIND_PACKAGE: u16 = 1;
-
-const KIND_DIRECTORY: u16 = 2;
-
-const KIND_FILE: u16 = 3;
 
 #[derive(Clone, Copy)]
 pub enum Item {
@@ -25,13 +20,13 @@ pub enum Item {
 fn is_reserved(path: &[u8]) -> bool
     ensures { result ≡ under_pkg path.now }
 {
-    path == b"/pkg".as_slice() || path.starts_with(b"/pkg/")
+    matches!(path.strip_prefix(b"/pkg"), Some([] | [b'/', ..]))
 }
 
 fn entry_path(text: &[u8]) -> Result<Path, Ground>
     ensures { Tells path_text (path_check text.now) result }
 {
-    let path = Path::parse(text)?;
+    let path = Path::try_from(text)?;
     if is_reserved(text) {
         return Err(Ground::Reserved);
     }
@@ -44,28 +39,21 @@ fn directory(body: &[u8]) -> Result<Entry, Ground>
     Ok(Entry::Directory(entry_path(body)?))
 }
 
+// The content is looked at behind the path.
+fn file_of(path: &[u8], content: &[u8]) -> Result<Entry, Ground>
+    ensures { Tells entry_of (file_parts path.now content.now) result }
+{
+    Ok(Entry::File(entry_path(path)?, Content::try_from(content)?))
+}
+
 // A byte with the path's length, the path, and the content.
 fn file(body: &[u8]) -> Result<Entry, Ground>
     ensures { Tells entry_of (file_body body.now) result }
 {
-    if body.is_empty() || body.len() - 1 < body[0] as usize {
-        return Err(Ground::ShortBody);
-    }
-    let end = 1 + body[0] as usize;
-    let path = entry_path(&body[1..end])?;
-    let content = Content::parse(&body[end..body.len()])?;
-    Ok(Entry::File(path, content))
-}
-
-// The entry of a record that is none of a package.
-fn listed(kind: u16, body: &[u8]) -> Result<Entry, Ground>
-    ensures { Tells entry_of (entry_body kind body.now) result }
-{
-    if kind == KIND_DIRECTORY {
-        directory(body)
-    } else {
-        file(body)
-    }
+    let (size, rest) = body.split_first().ok_or(Ground::ShortBody)?;
+    let parts = rest.split_at_checked(*size as usize);
+    let (path, content) = parts.ok_or(Ground::ShortBody)?;
+    file_of(path, content)
 }
 
 impl Item {
@@ -73,15 +61,11 @@ impl Item {
     pub fn parse(kind: u16, body: &[u8], begun: bool) -> Result<Item, Ground>
         ensures { Tells meaning_of (meaning begun kind body.now) result }
     {
-        match kind {
-            KIND_PACKAGE => Ok(Item::NewPackage(Name::parse(body)?)),
-            KIND_DIRECTORY | KIND_FILE => {
-                if !begun {
-                    return Err(Ground::NoPackage);
-                }
-                Ok(Item::NewEntry(listed(kind, body)?))
-            }
-            _ => Err(Ground::UnknownKind),
+        match RecordKind::try_from(kind)? {
+            RecordKind::Package => Ok(Item::NewPackage(Name::try_from(body)?)),
+            _ if !begun => Err(Ground::NoPackage),
+            RecordKind::Directory => Ok(Item::NewEntry(directory(body)?)),
+            RecordKind::File => Ok(Item::NewEntry(file(body)?)),
         }
     }
 }

@@ -1,9 +1,10 @@
 // A row of records: the body's length and the kind, two bytes each, the low one first, then the body.
-ghost use Rattle.std.specs.Prelude.{◌≡◌, ◌+◌, ◌<◌, length, slice_index};
+ghost use Rattle.std.specs.Prelude.{◌≡◌, ◌-◌, length, drop};
 ghost use Rattle.records.specs.Rows.{word};
 ghost use Rattle.records.specs.Heads.{Reads};
 
 use crate::fault::{Ground, IndexFault};
+use faults::Numbered;
 
 // The bytes before a body.
 const LEAD: usize = 4;
@@ -18,39 +19,42 @@ pub struct Record<'a> {
     pub next: usize,
 }
 
-fn word_at(bytes: &[u8], place: usize) -> u16
-    requires { place + 1 < length bytes.now }
-    ensures { result ≡ word (slice_index bytes.now place) (slice_index bytes.now (place + 1)) }
+// A number of two bytes, the low one first.
+fn word(low: u8, high: u8) -> u16
+    ensures { result ≡ word low high }
 {
-    bytes[place] as u16 + 256 * bytes[place + 1] as u16
+    u16::from_le_bytes([low, high])
+}
+
+// The bytes from a place on; none where that is past the end.
+fn bytes_from(bytes: &[u8], place: usize) -> &[u8]
+    ensures { result.now ≡ drop place bytes.now }
+{
+    bytes.get(place..).unwrap_or(&[])
 }
 
 // The record whose first byte is at `place`; none at the end.
+#[tactic(auto, using(crate::proofs::Rows::row_end, crate::proofs::Rows::row_short, crate::proofs::Rows::row_past))]
 pub fn record_at<'a>(bytes: &'a [u8], place: usize) -> Result<Option<Record<'a>>, IndexFault>
     ensures { Reads bytes.now place result }
 {
-    if place >= bytes.len() {
-        return Ok(None);
+    let past = Ground::PastEnd.at(place);
+    match bytes_from(bytes, place) {
+        [] => Ok(None),
+        [a, b, c, d, rest @ ..] => {
+            let size = word(*a, *b) as usize;
+            let kind = word(*c, *d);
+            let Some(body) = rest.get(..size) else {
+                return Err(past);
+            };
+            let next = place + LEAD + size;
+            Ok(Some(Record {
+                place,
+                kind,
+                body,
+                next,
+            }))
+        }
+        _ => Err(past),
     }
-    let past = IndexFault {
-        place,
-        ground: Ground::PastEnd,
-    };
-    let left = bytes.len() - place;
-    if left < LEAD {
-        return Err(past);
-    }
-    let size = word_at(bytes, place) as usize;
-    let kind = word_at(bytes, place + 2);
-    if left - LEAD < size {
-        return Err(past);
-    }
-    let start = place + LEAD;
-    let next = start + size;
-    Ok(Some(Record {
-        place,
-        kind,
-        body: &bytes[start..next],
-        next,
-    }))
 }

@@ -12,6 +12,7 @@ use values::Name;
 
 impl Index {
     // The number of packages.
+    #[tactic(auto, using(crate::proofs::Lookups::packs_length))]
     pub fn len(&self) -> usize
         ensures { result ≡ length (index_of self.now) }
     {
@@ -29,25 +30,13 @@ impl Index {
     pub fn position(&self, name: &Name) -> Option<usize>
         ensures { result ≡ position_of (name_text name.now) (index_of self.now) }
     {
-        let packages = self.packages.as_slice();
-        for (i, p) in packages.iter().enumerate() {
-            if *name == p.name() {
-                return Some(i);
-            }
-        }
-        None
+        self.packages.iter().position(|p| *name == p.name())
     }
 
     // The package of this name.
     pub fn package(&self, name: &Name) -> Option<&Package>
         ensures { option_map (λ p. pack_of p.now) result ≡ found (name_text name.now) (index_of self.now) }
     {
-        let packages = self.packages.as_slice();
-        for p in packages {
-            if *name == p.name() {
-                return Some(p);
-            }
-        }
-        None
+        self.packages.iter().find(|p| *name == p.name())
     }
 }

@@ -5,11 +5,11 @@ ghost use Rattle.fs.specs.Package.{entry_paths, under_pkg};
 ghost use Rattle.records.specs.Entries.{entry_of, entry_path};
 ghost use Rattle.index.specs.Errors.{Added};
 ghost use Rattle.index.specs.Packages.{pack_of};
-ghost use Rattle.index.specs.Reading.{admit, extended};
+ghost use Rattle.index.specs.Reading.{extended};
 
 use super::Package;
-use crate::error::IndexError;
-use records::fault::AtPlace;
+use crate::limits::admit;
+use faults::ReadError;
 use records::{Entry, Ground};
 use std::alloc::Global;
 use values::{Name, Path};
@@ -42,34 +42,15 @@ impl Package {
     fn lists(&self, path: &Path) -> bool
         ensures { result ≡ has (path_text path.now) (entry_paths (pack_of self.now).1) }
     {
-        let entries = self.entries.as_slice();
-        for e in entries {
-            if *path == e.path() {
-                return true;
-            }
-        }
-        false
+        self.entries.iter().any(|e| *path == e.path())
     }
 
-    // Whether there may be one more entry, at this path.
-    fn admits(&self, path: &Path) -> Result<(), Ground>
-        ensures { result ≡ admit 16 (path_text path.now) (entry_paths (pack_of self.now).1) }
-    {
-        if self.entries.len() >= ENTRIES_MAX {
-            return Err(Ground::TooMany);
-        }
-        if self.lists(path) {
-            return Err(Ground::Repeated);
-        }
-        Ok(())
-    }
-
-    // Lists one more entry, which the record at `place` has.
-    pub(crate) fn add(&mut self, new: Entry, place: usize) -> Result<(), IndexError>
+    // Lists one more entry.
+    pub(crate) fn add(&mut self, new: Entry) -> Result<(), ReadError<Ground>>
         requires { under_pkg (entry_path (entry_of new)) ≡ false }
-        ensures { Added (pack_of self.old) place (extended (pack_of self.old) (entry_of new)) result (pack_of self.new) }
+        ensures { Added (pack_of self.old) (extended (pack_of self.old) (entry_of new)) result (pack_of self.new) }
     {
-        self.admits(&new.path()).at(place)?;
+        admit(ENTRIES_MAX, self.entries.len(), self.lists(&new.path()))?;
         self.entries.push(new)?;
         Ok(())
     }

@@ -1,22 +1,14 @@
-use Rattle.std.proofs.Common.{map, sym, ◌∙◌}
-use Rattle.std.proofs.lemmas.List.{at_drop_all}
+use Rattle.std.proofs.Common.{vec_items, rules, tests, ◌∙◌}
+use Rattle.std.proofs.lemmas.Iterator.{YieldsList-from_slice}
+use Rattle.std.proofs.lemmas.Iterator.Search.{find_from_yields_List}
 use Rattle.values.specs.Texts.{name_text}
-use Rattle.index.specs.Lookups.{found}
-use Rattle.index.specs.Packages.{pack_of}
-use Rattle.index.proofs.Lookups.{name_found, name_passed}
+use Rattle.fs.specs.Tree.{same}
+use Rattle.index.proofs.Lookups.{named}
 use Rattle.index.proofs.index.Index.package.Goals as goal
-
-pub returns-then-eq : goal.returns-then-eq
-returns-then-eq c =
-    sym (name_found (name_text c.args.name.now) c.as_slice-packages.result.now c.loop-p.p-index c.p-item.result c.loop-p-test.true c.p-item.is _ c.name.ensures c.if-eq.ensures)
-    ∙ c.loop-p.invariant
-
-pub loop-p-preserved : goal.loop-p-preserved
-loop-p-preserved c =
-    name_passed (name_text c.args.name.now) c.as_slice-packages.result.now c.loop-p.p-index c.p-item.result c.loop-p-test.true c.p-item.is _ c.name.ensures c.if-eq.ensures
-    ∙ c.loop-p.invariant
 
 pub returns : goal.returns
 returns c =
-    sym (at_drop_all (λ ys. found (name_text c.args.name.now) (map pack_of ys)) c.as_slice-packages.result.now c.loop-p.p-index c.loop-p-test.false)
-    ∙ c.loop-p.invariant
+    let n = name_text c.args.name.now in
+    let xs = vec_items c.args.self.now.packages in
+    let at = find_from_yields_List (λ x. same n (name_text x.name)) _ _ c.find.result c.find.ensures.ran (YieldsList-from_slice xs (c.iter.ensures.rest ∙ c.deref.ensures.value)) (λ x b q k. search (rules, tests)) in
+    named n xs c.find.result at
