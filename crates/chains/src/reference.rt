@@ -1,10 +1,10 @@
 ghost use Rattle.std.specs.Prelude.{◌≡◌};
-ghost use Rattle.lexer.specs.Bytes.{Stands};
 ghost use Rattle.syntax.specs.Reading.{Reads};
 ghost use Rattle.grammar.specs.Chains.{bracketed as bracketed_at, reference as reference_at};
 ghost use Rattle.chains.specs.Meanings.{ref_of};
 
-use lexer::Position;
+use faults::Numbered;
+use lexer::{Position, Reader};
 use syntax::part::{next_mark, next_quoted, next_word};
 use syntax::{Ground, Kind, Mark, TextFault};
 
@@ -19,30 +19,26 @@ pub struct Ref<'a> {
 
 // ['TITLE'], behind the word of its kind, which stands at `first`.
 pub(crate) fn next_bracketed<'a>(
-    text: &'a [u8],
-    at: &mut Position,
+    reader: &mut Reader<'a>,
     kind: Kind,
     first: Position,
 ) -> Result<Ref<'a>, TextFault>
-    ensures { Stands text.now at.old → Reads ref_of (bracketed_at kind first) text.now at.old result at.new }
+    ensures { Reads ref_of (bracketed_at kind first) reader.old result reader.new }
 {
-    next_mark(text, at, Mark::OpenBracket)?;
-    let title = next_quoted(text, at)?;
-    next_mark(text, at, Mark::CloseBracket)?;
+    next_mark(reader, Mark::OpenBracket)?;
+    let title = next_quoted(reader)?;
+    next_mark(reader, Mark::CloseBracket)?;
     Ok(Ref {
         kind,
-        title: title.bytes,
+        title: title.part,
         at: first,
     })
 }
 
-pub(crate) fn next_reference<'a>(text: &'a [u8], at: &mut Position) -> Result<Ref<'a>, TextFault>
-    ensures { Stands text.now at.old → Reads ref_of reference_at text.now at.old result at.new }
+pub(crate) fn next_reference<'a>(reader: &mut Reader<'a>) -> Result<Ref<'a>, TextFault>
+    ensures { Reads ref_of reference_at reader.old result reader.new }
 {
-    let word = next_word(text, at)?;
-    let kind = Kind::referred(word.bytes).ok_or(TextFault {
-        ground: Ground::Unexpected,
-        at: word.at,
-    })?;
-    next_bracketed(text, at, kind, word.at)
+    let word = next_word(reader)?;
+    let kind = Kind::referred(word.part).ok_or(Ground::Unexpected.at(word.at))?;
+    next_bracketed(reader, kind, word.at)
 }

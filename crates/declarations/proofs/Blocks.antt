@@ -1,22 +1,21 @@
 -- What the code's parts of a block answer. Assumes nothing.
-use Rattle.std.proofs.Common.{◌≡◌, ℕ, true, false, cond, Ok, Err, Result, sym, refl, ap, ◌∙◌, arith}
+use Rattle.std.specs.Bool.{beq}
+use Rattle.std.specs.Option.{option_eq}
+use Rattle.std.proofs.Common.{◌≡◌, ℕ, Bool, true, false, cond, Some, None, Option, sym, refl, ap, ◌∙◌, arith}
 use Rattle.std.proofs.lemmas.Bool.{cond-true, cond-false}
 use Rattle.lexer.specs.Lexing.{Seen, seen, end}
 use Rattle.lexer.specs.Rows.{Row, token, ended, broken, parsed, failed, next}
 use Rattle.lexer.specs.declared.fault.LexFault.{LexFault}
-use Rattle.lexer.specs.declared.position.Position.{Position}
-use Rattle.syntax.specs.declared.fault.Ground.{Ground}
-use Rattle.syntax.specs.Faults.{located, no_token}
-use Rattle.syntax.specs.Reading.{read, refused, checked, answer}
+use Rattle.syntax.specs.Faults.{no_token}
+use Rattle.syntax.specs.Reading.{read, refused}
 use Rattle.syntax.specs.Tokens.{of_seen}
-use Rattle.syntax.proofs.Steps.{holds, breaks}
 use Rattle.grammar.specs.Declarations.{closer_of, is_true, last_comma}
-use Rattle.declarations.specs.Meanings.{Tells}
 
--- a checked value that ends a reading
-pub ends : {A B : Type 0} (f : A → B) (a : Result B Ground) (r : Result A Ground) (p : Position) (q : Row) → Tells f a r → answer f (located p r) q ≡ checked a p (λ x. read x q)
-ends f a (Ok x) p q t = holds p (λ x. read x q) (sym t) refl
-ends f a (Err g) p q t = breaks p (λ x. read x q) (sym t)
+-- the test for a closer that closes
+pub closes_tested : (o : Option Bool) → option_eq beq o (Some true) ≡ is_true o
+closes_tested None = refl
+closes_tested (Some true) = refl
+closes_tested (Some false) = refl
 
 -- behind a comma, by what stands next
 module _ (s : Seen) (q : Row) where

@@ -1,4 +1,4 @@
 pub mod Spares
 pub mod Blocks
-pub mod Subjects
+pub mod Checks
 pub mod Titles

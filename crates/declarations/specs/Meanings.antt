@@ -2,13 +2,12 @@
 use Rattle.std.specs.Prelude.{◌≡◌, ℕ, ◌+◌, cond, List, is_some, Ok, Err, Result}
 use Rattle.std.specs.Option.{option_map}
 use Rattle.values.specs.Texts.{path_text, name_text, content_text}
+use Rattle.lexer.specs.declared.placed.Placed.{Placed}
 use Rattle.syntax.specs.declared.kind.Kind.{Kind}
 use Rattle.syntax.specs.declared.kind.Kind.TheVariants.{File, Package, Service}
-use Rattle.syntax.specs.Reading.{Located}
+use Rattle.syntax.specs.Parts.{placed_as}
 use Rattle.grammar.specs.Documents as doc
 use Rattle.grammar.specs.Declarations as reading
-use Rattle.declarations.specs.declared.declared.Declared.{Declared}
-use Rattle.declarations.specs.declared.declared.Heading.{Heading}
 use Rattle.declarations.specs.declared.given.Given.{Given}
 use Rattle.declarations.specs.declared.resource.Resource.{Resource}
 use Rattle.declarations.specs.declared.resource.Resource.TheVariants.{Put, Directory, Absent, Package as APackage, Service as AService}
@@ -44,8 +43,5 @@ given_of g = record { ensure = g.ensure; content = option_map content_text g.con
 abbrev pub spare : reading.Given → ℕ
 spare g = cond (is_some g.ensure) 0 1 + cond (is_some g.content) 0 1
 
-abbrev pub heading_of : Heading → Located (List ℕ)
-heading_of h = record { value = subject_title h.subject; at = h.at }
-
-abbrev pub declared_of : Declared → doc.Declared
-declared_of d = record { resource = resource_of d.resource; title = record { value = doc.title_of (resource_of d.resource); at = d.at } }
+abbrev pub declared_of : Placed Resource → doc.Declared
+declared_of d = record { resource = resource_of d.part; title = placed_as (λ r. doc.title_of (resource_of r)) d }

@@ -1,39 +1,33 @@
-// Reads a block of attributes, from behind the colon up to the closing brace. It is a function of the text and a position,
-// so that a block can be read again from a position that was kept.
+// Reads a block of attributes, from behind the colon up to the closing brace. A reader can be copied, so that a block can be
+// read again from a place that was kept.
 ghost use Rattle.std.specs.Prelude.{◌≡◌, ℕ, ◌<◌, IfOk};
-ghost use Rattle.std.specs.Option.{option_map};
-ghost use Rattle.lexer.specs.Bytes.{Stands};
 ghost use Rattle.lexer.specs.Lexing.{sight};
 ghost use Rattle.lexer.specs.declared.position.Position.{Position as Place};
 ghost use Rattle.syntax.specs.Reading.{Reads};
 ghost use Rattle.syntax.specs.Tokens.{of_seen};
-ghost use Rattle.grammar.specs.Declarations.{attribute as attribute_at, closer_of, is_true, last_comma as last_comma_at, closing, attributes};
-ghost use Rattle.declarations.specs.Meanings.{given_of, spare};
+ghost use Rattle.grammar.specs.Declarations.{attribute as attribute_at, closer_of, last_comma as last_comma_at, closing, attributes};
+ghost use Rattle.declarations.specs.Meanings.{subject_kind, given_of, spare};
 
-use crate::given::{Given, named};
-use lexer::{Position, Token};
-use syntax::fault::AtPosition;
-use syntax::part::{next_mark, next_value, next_word};
-use syntax::{Ground, Kind, Mark, TextFault};
+use crate::given::Given;
+use crate::resource::Subject;
+use faults::Numbered;
+use lexer::{Reader, Token};
+use syntax::part::{next_as, next_mark, next_value, next_word};
+use syntax::{Ground, Mark, TextFault};
 
 // NAME => VALUE; an attribute less is then left to be given, so that a block ends.
-fn next_attribute(
-    text: &[u8],
-    at: &mut Position,
-    kind: Kind,
-    given: Given,
-) -> Result<Given, TextFault>
-    ensures reads { Stands text.now at.old → Reads given_of (attribute_at kind (given_of given)) text.now at.old result at.new }
+fn next_attribute(reader: &mut Reader<'_>, given: Given) -> Result<Given, TextFault>
+    ensures reads { Reads given_of (attribute_at (subject_kind given.subject) (given_of given)) reader.old result reader.new }
+    ensures kept { IfOk result (λ g. g.subject ≡ given.subject) }
     ensures fewer { IfOk result (λ g. spare (given_of g) < spare (given_of given)) }
 {
-    let word = next_word(text, at)?;
-    let attribute = named(kind, given, word.bytes).ok_or(TextFault {
-        ground: Ground::Attribute,
-        at: word.at,
-    })?;
-    next_mark(text, at, Mark::Gives)?;
-    let v = next_value(text, at)?;
-    given.with(kind, attribute, v.value).at(v.at)
+    let word = next_word(reader)?;
+    let attribute = given.named(word.part).ok_or(Ground::Attribute.at(word.at))?;
+    next_mark(reader, Mark::Gives)?;
+    let value = next_value(reader)?;
+    given
+        .with(attribute, value.part)
+        .map_err(|ground| ground.at(value.at))
 }
 
 // Whether the token closes a block, if it may stand behind an attribute.
@@ -47,55 +41,42 @@ fn closer_in(token: Token<'_>) -> Option<bool>
     }
 }
 
-fn closes(token: Token<'_>) -> bool
-    ensures { (p : Place) → result ≡ is_true (of_seen closer_of (sight token.entry p)) }
-{
-    matches!(token, Token::CloseBrace)
-}
-
 // Past the brace behind a comma, if it stands there; whether it does.
-fn last_comma(text: &[u8], at: &mut Position) -> Result<bool, TextFault>
-    ensures { Stands text.now at.old → Reads (λ b. b) last_comma_at text.now at.old result at.new }
+fn last_comma(reader: &mut Reader<'_>) -> Result<bool, TextFault>
+    ensures { Reads (λ b. b) last_comma_at reader.old result reader.new }
 {
-    let mut ahead = *at;
-    let t = ahead.next_token(text)?;
-    if closes(t.token) {
-        *at = ahead;
+    let mut ahead = *reader;
+    let t = ahead.next_token()?;
+    if closer_in(t.part) == Some(true) {
+        *reader = ahead;
         return Ok(true);
     }
     Ok(false)
 }
 
 // Past `,` or `}` or both; whether the brace was closed.
-fn next_closer(text: &[u8], at: &mut Position) -> Result<bool, TextFault>
-    ensures { Stands text.now at.old → Reads (λ b. b) closing text.now at.old result at.new }
+fn next_closer(reader: &mut Reader<'_>) -> Result<bool, TextFault>
+    ensures { Reads (λ b. b) closing reader.old result reader.new }
 {
-    let t = at.next_token(text)?;
-    let closed = closer_in(t.token).ok_or(TextFault {
-        ground: Ground::Unexpected,
-        at: t.at,
-    })?;
-    if closed {
+    if next_as(reader, closer_in)?.part {
         return Ok(true);
     }
-    last_comma(text, at)
+    last_comma(reader)
 }
 
-// Past the closing brace; what the block gives.
-pub(crate) fn attribute_block(
-    text: &[u8],
-    at: &mut Position,
-    kind: Kind,
-) -> Result<Given, TextFault>
-    ensures { Stands text.now at.old → Reads given_of (attributes kind) text.now at.old result at.new }
+// Past the closing brace; what the block gives the subject.
+pub(crate) fn attribute_block(reader: &mut Reader<'_>, subject: Subject) -> Result<Given, TextFault>
+    ensures reads { Reads given_of (attributes (subject_kind subject)) reader.old result reader.new }
+    ensures kept { IfOk result (λ g. g.subject ≡ subject) }
 {
     let mut given = Given {
+        subject,
         ensure: None,
         content: None,
     };
     loop {
-        given = next_attribute(text, at, kind, given)?;
-        if next_closer(text, at)? {
+        given = next_attribute(reader, given)?;
+        if next_closer(reader)? {
             return Ok(given);
         }
     }

@@ -1,129 +1,99 @@
 // The attributes of one declaration.
-ghost use Rattle.std.specs.Prelude.{◌≡◌};
+#![tactic(auto, using(syntax::proofs::Words::same_pointwise), unfolding(grammar::specs::Declarations::named, grammar::specs::Declarations::wanted))]
+
+ghost use Rattle.std.specs.Prelude.{◌≡◌, IfOk};
 ghost use Rattle.std.specs.Option.{option_map};
-ghost use Rattle.values.specs.Texts.{path_text, content_text};
 ghost use Rattle.syntax.specs.Parts.{value_means};
-ghost use Rattle.grammar.specs.Declarations.{named as name_of, wanted as want_of, with_value, of_want, made_of};
+ghost use Rattle.syntax.specs.declared.kind.Kind.TheVariants.{File as AFile};
+ghost use Rattle.grammar.specs.Declarations.{named as name_of, wanted as want_of, with_value, made_of};
 ghost use Rattle.declarations.specs.Meanings.{Tells, resource_of, subject_kind, subject_title, given_of};
 
 use crate::resource::{Resource, Subject};
-use syntax::kind::same;
-use syntax::{Attribute, Ground, Kind, Value, Want};
-use values::{Content, Path};
+use syntax::{Attribute, Ground, Value, Want};
+use values::Content;
 
-// The attributes so far.
+// What is declared, and its attributes so far.
 #[derive(Clone, Copy)]
 pub(crate) struct Given {
+    pub subject: Subject,
     pub ensure: Option<Want>,
     pub content: Option<Content>,
 }
 
-// An attribute that the kind has, and that was not given yet.
-pub(crate) fn named(kind: Kind, given: Given, word: &[u8]) -> Option<Attribute>
-    ensures { result ≡ name_of kind (given_of given) word.now }
-{
-    if same(word, b"ensure") {
-        if given.ensure.is_some() {
-            return None;
-        }
-        return Some(Attribute::Ensure);
-    }
-    if matches!(kind, Kind::File) && same(word, b"content") {
-        if given.content.is_some() {
-            return None;
-        }
-        return Some(Attribute::Content);
-    }
-    None
-}
-
 fn wanted_of_file(word: &[u8]) -> Option<Want>
-    ensures { result ≡ want_of Kind.File word.now }
+    ensures { result ≡ want_of AFile word.now }
 {
-    if same(word, b"file") {
+    if word == b"file".as_slice() {
         Some(Want::File)
-    } else if same(word, b"directory") {
+    } else if word == b"directory".as_slice() {
         Some(Want::Directory)
-    } else if same(word, b"absent") {
+    } else if word == b"absent".as_slice() {
         Some(Want::Absent)
     } else {
         None
     }
 }
 
-// What `ensure` may be for the kind.
-fn wanted(kind: Kind, word: &[u8]) -> Option<Want>
-    ensures { result ≡ want_of kind word.now }
-{
-    match kind {
-        Kind::File => wanted_of_file(word),
-        Kind::Package if same(word, b"present") => Some(Want::Present),
-        Kind::Service if same(word, b"running") => Some(Want::Running),
-        _ => None,
-    }
-}
-
-// A content stands with `ensure => file` and with no other.
-fn file(path: Path, want: Want, content: Option<Content>) -> Option<Resource>
-    ensures { option_map resource_of result ≡ of_want want Kind.File (path_text path) (option_map content_text content) }
-{
-    match content {
-        Some(content) => match want {
-            Want::File => Some(Resource::Put(path, content)),
-            _ => None,
-        },
-        None => match want {
-            Want::Directory => Some(Resource::Directory(path)),
-            Want::Absent => Some(Resource::Absent(path)),
-            _ => None,
-        },
-    }
-}
-
 impl Given {
+    // An attribute that the kind has, and that was not given yet.
+    pub(crate) fn named(self, word: &[u8]) -> Option<Attribute>
+        ensures { result ≡ name_of (subject_kind self.subject) (given_of self) word.now }
+    {
+        if word == b"ensure".as_slice() {
+            self.ensure.is_none().then_some(Attribute::Ensure)
+        } else if matches!(self.subject, Subject::File(_)) && word == b"content".as_slice() {
+            self.content.is_none().then_some(Attribute::Content)
+        } else {
+            None
+        }
+    }
+
+    // What `ensure` may be for the kind.
+    fn wanted(self, word: &[u8]) -> Option<Want>
+        ensures { result ≡ want_of (subject_kind self.subject) word.now }
+    {
+        match self.subject {
+            Subject::File(_) => wanted_of_file(word),
+            Subject::Package(_) => (word == b"present".as_slice()).then_some(Want::Present),
+            Subject::Service(_) => (word == b"running".as_slice()).then_some(Want::Running),
+        }
+    }
+
     // One attribute more, if its value is allowed.
-    pub(crate) fn with(
-        self,
-        kind: Kind,
-        attribute: Attribute,
-        value: Value<'_>,
-    ) -> Result<Given, Ground>
-        ensures { Tells given_of (with_value kind (given_of self) attribute (value_means value.entry)) result }
+    pub(crate) fn with(self, attribute: Attribute, value: Value<'_>) -> Result<Given, Ground>
+        ensures tells { Tells given_of (with_value (subject_kind self.subject) (given_of self) attribute (value_means value.entry)) result }
+        ensures kept { IfOk result (λ g. g.subject ≡ self.subject) }
     {
         match (attribute, value) {
             (Attribute::Ensure, Value::Word(word)) => {
-                let ensure = wanted(kind, word).ok_or(Ground::NotAllowed)?;
+                let ensure = self.wanted(word).ok_or(Ground::NotAllowed)?;
                 Ok(Given {
                     ensure: Some(ensure),
-                    content: self.content,
+                    ..self
                 })
             }
             (Attribute::Content, Value::Quoted(bytes)) => {
-                let content = Content::parse(bytes)?;
+                let content = Content::try_from(bytes)?;
                 Ok(Given {
-                    ensure: self.ensure,
                     content: Some(content),
+                    ..self
                 })
             }
             _ => Err(Ground::NotAllowed),
         }
     }
 
-    // The resource of a subject with these attributes.
-    pub(crate) fn resource(self, subject: Subject) -> Option<Resource>
-        ensures { option_map resource_of result ≡ made_of (subject_kind subject) (subject_title subject) (given_of self).ensure (given_of self).content }
+    // The resource of the subject with these attributes: a content stands with `ensure => file` and with no other.
+    pub(crate) fn resource(self) -> Option<Resource>
+        ensures { option_map resource_of result ≡ made_of (subject_kind self.subject) (subject_title self.subject) (given_of self).ensure (given_of self).content }
     {
-        let want = self.ensure?;
-        match subject {
-            Subject::File(path) => file(path, want, self.content),
-            Subject::Package(name) => match want {
-                Want::Present if self.content.is_none() => Some(Resource::Package(name)),
-                _ => None,
-            },
-            Subject::Service(name) => match want {
-                Want::Running if self.content.is_none() => Some(Resource::Service(name)),
-                _ => None,
-            },
+        match (self.subject, self.ensure?, self.content) {
+            (Subject::File(path), Want::File, Some(content)) => Some(Resource::Put(path, content)),
+            (Subject::File(path), Want::Directory, None) => Some(Resource::Directory(path)),
+            (Subject::File(path), Want::Absent, None) => Some(Resource::Absent(path)),
+            (Subject::Package(name), Want::Present, None) => Some(Resource::Package(name)),
+            (Subject::Service(name), Want::Running, None) => Some(Resource::Service(name)),
+            _ => None,
         }
     }
 }

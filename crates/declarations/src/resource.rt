@@ -1,8 +1,6 @@
-ghost use Rattle.std.specs.Prelude.{◌≡◌, true, false, MatchResult};
-ghost use Rattle.values.specs.declared.fault.ValueFault.TheVariants.{Malformed};
-ghost use Rattle.syntax.specs.declared.fault.Ground.TheVariants.{Value as Refused};
-ghost use Rattle.grammar.specs.Declarations.{title_ok};
-ghost use Rattle.declarations.specs.Meanings.{subject_kind, subject_title};
+ghost use Rattle.std.specs.Prelude.{◌≡◌, IfOk};
+ghost use Rattle.grammar.specs.Declarations.{title_check};
+ghost use Rattle.declarations.specs.Meanings.{Tells, subject_kind, subject_title};
 
 use syntax::{Ground, Kind};
 use values::{Content, Name, Path};
@@ -27,12 +25,13 @@ pub(crate) enum Subject {
 
 impl Subject {
     pub(crate) fn parse(kind: Kind, title: &[u8]) -> Result<Subject, Ground>
-        ensures { MatchResult result (λ s. (title_ok kind title.now ≡ true) × (subject_kind s ≡ kind) × (subject_title s ≡ title.now)) (λ g. (title_ok kind title.now ≡ false) × (g ≡ Refused Malformed)) }
+        ensures tells { Tells subject_title (title_check kind title.now) result }
+        ensures kinded { IfOk result (λ s. subject_kind s ≡ kind) }
     {
         match kind {
-            Kind::File => Ok(Subject::File(Path::parse(title)?)),
-            Kind::Package => Ok(Subject::Package(Name::parse(title)?)),
-            Kind::Service => Ok(Subject::Service(Name::parse(title)?)),
+            Kind::File => Ok(Subject::File(Path::try_from(title)?)),
+            Kind::Package => Ok(Subject::Package(Name::try_from(title)?)),
+            Kind::Service => Ok(Subject::Service(Name::try_from(title)?)),
         }
     }
 }

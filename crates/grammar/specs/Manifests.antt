@@ -7,10 +7,9 @@ use Rattle.lexer.specs.Rows.{row}
 use Rattle.syntax.specs.declared.arrow.Arrow.{Arrow}
 use Rattle.syntax.specs.declared.arrow.Arrow.TheVariants.{Before, Notifies}
 use Rattle.syntax.specs.declared.fault.Ground.TheVariants.{TextTooLong, NoResource, NoNotice}
-use Rattle.syntax.specs.declared.fault.TextFault.{TextFault}
 use Rattle.syntax.specs.declared.kind.Kind.{Kind}
 use Rattle.syntax.specs.declared.kind.Kind.TheVariants.{File, Package, Service}
-use Rattle.syntax.specs.Faults.{fault_at}
+use Rattle.syntax.specs.Faults.{TextFault, fault_at}
 use Rattle.syntax.specs.Reading.{Read, read, refused}
 use Rattle.grammar.specs.Documents.{Declared, Ref, Link, Document, number_of}
 use Rattle.grammar.specs.Items.{document}

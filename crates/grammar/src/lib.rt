@@ -4,8 +4,6 @@
 ghost use Rattle.grammar.specs.Grammar.{ReadExactly};
 
 // A text is read as a manifest exactly where its tokens are a row of declarations and chains that says it and keeps the rules.
-pub fn read_exactly() -> u8
+pub fn read_exactly()
     ensures { ReadExactly }
-{
-    0
-}
+{}

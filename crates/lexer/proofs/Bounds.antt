@@ -1,6 +1,8 @@
 -- Where a token ends.
 use Rattle.std.proofs.Common.{◌≡◌, ℕ, ◌+◌, ◌<◌, ◌≤◌, Bool, true, false, ◌||◌, eqb, List, [], ◌∷◌, length, drop, refl, arith, length-drop}
 use Rattle.std.proofs.lemmas.Bool.{cond_both, cond-true}
+use Rattle.std.proofs.lemmas.List.Sums.{prefix_len-le-length}
+use Rattle.lexer.proofs.Steps.{word_counted}
 use Rattle.lexer.specs.declared.position.Position.{Position}
 use Rattle.lexer.specs.Bytes.{blank, letter, plain, position}
 use Rattle.lexer.specs.Lexing.{Lexeme, open_brace, close_brace, open_bracket, close_bracket, colon, comma, gives, before, notifies, seen, end, Lexed, lexed, fault, skipped, word_end, Quote, closed, wrong, unclosed, quote_end, quote_token, arrow, token, next_token, mark}
@@ -16,11 +18,7 @@ skip_bounds inside p (b ∷ bs) =
     (λ _. cond_both (inside || blank b) _ _ P (λ _. step inside) (λ _. (omega arith, omega arith))))
 
 pub word_bounds : (p : ℕ) (bs : List ℕ) → (p ≤ word_end p bs) × (word_end p bs ≤ p + length bs)
-unfolding word_end
-word_bounds p [] = (omega arith, omega arith)
-word_bounds p (b ∷ bs) =
-    let h = word_bounds (p + 1) bs in
-    cond_both (letter b) _ _ (λ n. (p ≤ n) × (n ≤ p + length (b ∷ bs))) (λ _. (omega arith, omega arith)) (λ _. (omega arith, omega arith))
+word_bounds p bs = let c = word_counted p bs in let h = prefix_len-le-length letter bs in (omega arith, omega arith)
 
 pub word_past : (p b : ℕ) (bs : List ℕ) → letter b ≡ true → p < word_end p (b ∷ bs)
 unfolding word_end

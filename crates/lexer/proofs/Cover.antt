@@ -9,7 +9,6 @@ use Rattle.lexer.specs.Rows.{begun, row_from}
 use Rattle.lexer.specs.Cover.{byte, All, Comment, Gap, One, Two, Spells, is_mark, is_arrow, begins_token, Breaks, none_begins, wrong_byte, no_closing, Covers, Covered}
 use Rattle.lexer.proofs.Bounds.{Taken, next_taken, skip_bounds, word_bounds, word_past}
 use Rattle.lexer.proofs.Rows.{row_is}
-use Rattle.lexer.proofs.Steps.{word_all, skip_all, quote_all}
 
 -- what holds at p and past it
 from_here : (P : ℕ → Type 0) (p s : ℕ) → P p → ((k : ℕ) → p + 1 ≤ k → k < s → P k) → (k : ℕ) → p ≤ k → k < s → P k
@@ -64,7 +63,7 @@ module _ (text : List ℕ) where
 
   skip_filled : (n q p : ℕ) (inside : Bool) → p + n ≡ length text → q ≤ p → Inside q inside p → Filled q p (skipped inside p (drop p text))
   unfolding skipped
-  skip_filled zero q p inside e h i = subst (Filled q p) (sym (skip_all text p inside (omega arith))) ((λ k a b. absurd (omega arith)), (λ b. absurd (omega arith)))
+  skip_filled zero q p inside e h i = subst (Filled q p) (sym (at_drop_all (skipped inside p) text p (omega arith))) ((λ k a b. absurd (omega arith)), (λ b. absurd (omega arith)))
   skip_filled (suc n) q p inside e h i =
       let on : (next : Bool) → Inside q next (p + 1) → (blank (byte text p) ≡ true) ⊎ Comment text q (p + 1) → Filled q p (skipped next (p + 1) (drop (p + 1) text)) =
       λ next j here. let r = skip_filled n q (p + 1) next (omega arith) (omega arith) j in (from_here (λ k. (blank (byte text k) ≡ true) ⊎ Comment text q (k + 1)) p _ here r.0, r.1) in
@@ -84,7 +83,7 @@ module _ (text : List ℕ) where
   pub word_letters : (n p : ℕ) → p + n ≡ length text → All text letter p (word_end p (drop p text)) × (letter (byte text (word_end p (drop p text))) ≡ false)
   unfolding word_end
   word_letters zero p e =
-      subst (λ s. All text letter p s × (letter (byte text s) ≡ false)) (sym (word_all text p (omega arith))) ((λ k a b. absurd (omega arith)), ap letter (get_or_past text p 0 (omega arith)))
+      subst (λ s. All text letter p s × (letter (byte text s) ≡ false)) (sym (at_drop_all (word_end p) text p (omega arith))) ((λ k a b. absurd (omega arith)), ap letter (get_or_past text p 0 (omega arith)))
   word_letters (suc n) p e =
       let P : ℕ → Type 0 = λ s. All text letter p s × (letter (byte text s) ≡ false) in
       subst P (sym (at_drop_more (word_end p) text p 0 (omega arith)))
@@ -104,7 +103,7 @@ module _ (text : List ℕ) where
 
   pub quote_is : (n p : ℕ) → p + n ≡ length text → Quotes p (quote_end p (drop p text))
   unfolding quote_end
-  quote_is zero p e = subst (Quotes p) (sym (quote_all text p (omega arith))) (λ k a b. absurd (omega arith))
+  quote_is zero p e = subst (Quotes p) (sym (at_drop_all (quote_end p) text p (omega arith))) (λ k a b. absurd (omega arith))
   quote_is (suc n) p e =
       subst (Quotes p) (sym (at_drop_more (quote_end p) text p 0 (omega arith)))
       (cond_both (eqb (byte text p) 39) _ _ (Quotes p) (λ t. (omega arith, omega arith, (λ k a b. absurd (omega arith)), eqb-true _ 39 t))

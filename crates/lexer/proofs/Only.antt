@@ -43,11 +43,11 @@ module _ (text : List ℕ) where
 
   module _ (s : ℕ) where
     one_is : (c e : ℕ) (l : Lexeme) → token text s (c ∷ drop (s + 1) text) ≡ mark text s l (s + 1) → One text s e c → token_at text s ≡ lexed (seen l (position text s)) e
-    one_is c e l t o = by_byte text (position text s) refl (omega arith) c o.2 t ∙ ap (lexed (seen l (position text s))) (sym o.0)
+    one_is c e l t o = by_byte text s (omega arith) c o.2 t ∙ ap (lexed (seen l (position text s))) (sym o.0)
 
     two_is : (c e : ℕ) (l : Lexeme) → token text s (c ∷ drop (s + 1) text) ≡ arrow text s (seen l (position text s)) (drop (s + 1) text) → Two text s e c → token_at text s ≡ lexed (seen l (position text s)) e
     two_is c e l t o =
-        by_byte text (position text s) refl (omega arith) c o.2 t
+        by_byte text s (omega arith) c o.2 t
         ∙ at_drop_more (arrow text s (seen l (position text s))) text (s + 1) 0 (omega arith)
         ∙ cond-true _ _ _ (eq-eqb _ 62 o.3)
         ∙ ap (lexed (seen l (position text s))) (sym o.0)
@@ -67,7 +67,7 @@ module _ (text : List ℕ) where
     -- a quote at s
     quote_to : (q : Quote) → s < length text → byte text s ≡ 39 → Quotes text (s + 1) q → token_at text s ≡ quote_token text s q
     quote_to q h b x =
-        by_byte text (position text s) refl h 39 b refl
+        by_byte text s h 39 b refl
         ∙ ap (quote_token text s) (quotes_same (s + 1) _ q (quote_is text (length text - (s + 1)) (s + 1) (omega arith)) x)
 
     spelt_is : (e : ℕ) (l : Lexeme) → Spells text s e l → token_at text s ≡ lexed (seen l (position text s)) e

@@ -4,7 +4,8 @@ use Rattle.std.proofs.lemmas.List.{at_drop_more, at_drop_all}
 use Rattle.std.proofs.lemmas.Bool.{cond-true, cond-false, lt-ltb, le-ltb, cases_lt}
 use Rattle.lexer.specs.declared.fault.LexFault.{LexFault}
 use Rattle.lexer.specs.declared.position.Position.{Position}
-use Rattle.lexer.specs.declared.token.Placed.{Placed}
+use Rattle.lexer.specs.declared.placed.Placed.{Placed}
+use Rattle.lexer.specs.declared.token.Token.{Token}
 use Rattle.lexer.specs.Bytes.{position}
 use Rattle.lexer.specs.Lexing.{Seen, seen, end, Lexed, lexed, fault, skipped, token, next_token, scanned}
 use Rattle.lexer.specs.Rows.{token as token_row, ended, begun, tokens, row_from, parsed, next, placed_sight, answer}
@@ -53,7 +54,7 @@ unfolding next
 head_is text p (seen l at) q t = refl
 head_is text p (end at) q t = ap (parsed (end at)) (end_row text q t.1 ∙ ap ended (sym t.0))
 
-pub row_step : (text : List ℕ) (p : ℕ) (r : Result Placed LexFault) (to : Position) → p ≤ length text → scanned r to ≡ next_token text p → answer placed_sight r (row_from text to.place) ≡ next (row_from text p)
+pub row_step : (text : List ℕ) (p : ℕ) (r : Result (Placed Token) LexFault) (to : Position) → p ≤ length text → scanned r to ≡ next_token text p → answer placed_sight r (row_from text to.place) ≡ next (row_from text p)
 unfolding next
 row_step text p (Ok t) to h e =
     head_is text p _ _ (subst (Taken text p) (sym e) (next_taken text p h)) ∙ ap (λ x. next (begun x (row_from text))) e ∙ sym (ap next (row_is text p))

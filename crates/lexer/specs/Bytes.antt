@@ -25,8 +25,12 @@ position text p = record { place = p; line = 1 + line_ends (take p text) }
 abbrev pub start : Position
 start = record { place = 0; line = 1 }
 
+-- a text so short that the numbers of its lines fit
+abbrev pub Short : List ℕ → Type 0
+Short text = length text < 2 ^ 32
+
 -- a reader's position: a place of the text, or its end, with the right line
 pub record Stands (text : List ℕ) (at : Position) : Type 0 where
   pub right : at ≡ position text at.place
   pub within : at.place ≤ length text
-  pub short : length text < 2 ^ 32
+  pub short : Short text

@@ -3,7 +3,7 @@ use Rattle.std.specs.Prelude.{ℕ, ◌+◌, Bool, true, false, cond, ◌||◌, L
 use Rattle.std.specs.List.{between}
 use Rattle.lexer.specs.declared.fault.LexFault.{LexFault}
 use Rattle.lexer.specs.declared.position.Position.{Position}
-use Rattle.lexer.specs.declared.token.Placed.{Placed}
+use Rattle.lexer.specs.declared.placed.Placed.{Placed}
 use Rattle.lexer.specs.declared.token.Token.{Token}
 use Rattle.lexer.specs.declared.token.Token.TheVariants.{Word, Quoted, OpenBrace, CloseBrace, OpenBracket, CloseBracket, Colon, Comma, Gives, Before, Notifies, End}
 use Rattle.lexer.specs.Bytes.{blank, letter, plain, position}
@@ -111,11 +111,11 @@ sight Before at = seen before at
 sight Notifies at = seen notifies at
 sight End at = end at
 
--- what the code answers of a token at a position: the token and the place past it, or the fault
-abbrev pub token_answer : Position → Result Token LexFault → Position → Lexed
-token_answer at (Ok t) after = lexed (sight t at) after.place
-token_answer at (Err f) after = fault f
+-- what the code answers of a token at a position: the token and its length, or the fault
+abbrev pub token_answer : Position → Result (Token × ℕ) LexFault → Lexed
+token_answer at (Ok t) = lexed (sight t.0 at) (at.place + t.1)
+token_answer at (Err f) = fault f
 
-abbrev pub scanned : Result Placed LexFault → Position → Lexed
-scanned (Ok t) after = lexed (sight t.token t.at) after.place
+abbrev pub scanned : Result (Placed Token) LexFault → Position → Lexed
+scanned (Ok t) after = lexed (sight t.part t.at) after.place
 scanned (Err f) after = fault f

@@ -2,7 +2,8 @@
 use Rattle.std.specs.Prelude.{ℕ, ◌+◌, cond, List, [], ◌∷◌, drop, Ok, Err, Result, nat_lt}
 use Rattle.lexer.specs.declared.fault.LexFault.{LexFault}
 use Rattle.lexer.specs.declared.position.Position.{Position}
-use Rattle.lexer.specs.declared.token.Placed.{Placed}
+use Rattle.lexer.specs.declared.placed.Placed.{Placed}
+use Rattle.lexer.specs.declared.token.Token.{Token}
 use Rattle.lexer.specs.Bytes.{position}
 use Rattle.lexer.specs.Lexing.{Lexeme, Seen, seen, end, Lexed, lexed, fault, sight, next_token}
 
@@ -41,8 +42,8 @@ next (token l at r) = parsed (seen l at) r
 next (ended at) = parsed (end at) (ended at)
 next (broken f) = failed f
 
-abbrev pub placed_sight : Placed → Seen
-placed_sight t = sight t.token t.at
+abbrev pub placed_sight : Placed Token → Seen
+placed_sight t = sight t.part t.at
 
 -- what the code answers, with the row past it
 abbrev pub answer : {A B : Type 0} → (A → B) → Result A LexFault → Row → Parsed B

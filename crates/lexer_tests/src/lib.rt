@@ -3,119 +3,77 @@
 
 #[cfg(test)]
 mod tests {
-    use lexer::{LexFault, Placed, Position, Token};
-    use std::process::Abort;
+    use faults::Numbered;
+    use lexer::{LexFault, Placed, Position, Reader, Token};
     use std::test::Fail;
 
-    fn nth<'a>(text: &'a [u8], n: usize) -> Result<Placed<'a>, LexFault> {
-        let mut at = Position::start();
+    fn nth<'a>(text: &'a str, n: usize) -> Result<Placed<Token<'a>>, LexFault> {
+        let mut reader = Reader::new(text.as_bytes());
         for _ in 0..n {
-            at.next_token(text)?;
+            reader.next_token()?;
         }
-        at.next_token(text)
-    }
-
-    // A sign for the case, and the bytes of a word or a quoted text.
-    fn spelt<'a>(token: Token<'a>) -> (char, &'a [u8]) {
-        match token {
-            Token::Word(w) => ('w', w),
-            Token::Quoted(q) => ('q', q),
-            Token::OpenBrace => ('{', b""),
-            Token::CloseBrace => ('}', b""),
-            Token::OpenBracket => ('[', b""),
-            Token::CloseBracket => (']', b""),
-            Token::Colon => (':', b""),
-            Token::Comma => (',', b""),
-            Token::Gives => ('=', b""),
-            Token::Before => ('-', b""),
-            Token::Notifies => ('~', b""),
-            Token::End => ('.', b""),
-        }
-    }
-
-    // The sign is `!` for a fault.
-    fn seen<'a>(text: &'a [u8], n: usize) -> (char, &'a [u8], Position) {
-        match nth(text, n) {
-            Ok(t) => {
-                let (sign, bytes) = spelt(t.token);
-                (sign, bytes, t.at)
-            }
-            Err(fault) => ('!', b"", fault.at),
-        }
-    }
-
-    fn case(
-        rt: &impl Abort,
-        text: &str,
-        n: usize,
-        sign: char,
-        bytes: &str,
-        place: usize,
-        line: usize,
-    ) {
-        let (s, b, at) = seen(text.as_bytes(), n);
-        assert!(rt; s == sign, "{}", text);
-        assert!(rt; b == bytes.as_bytes(), "{}", text);
-        assert_eq!(rt; at.place, place, "{}", text);
-        assert_eq!(rt; at.line, line, "{}", text);
+        reader.next_token()
     }
 
     #[test]
     fn tokens(rt: HostRuntime) {
         let all = "{}[]:,=>->~> aZ'b c'";
         let cases = [
-            (0, '{', "", 0),
-            (1, '}', "", 1),
-            (2, '[', "", 2),
-            (3, ']', "", 3),
-            (4, ':', "", 4),
-            (5, ',', "", 5),
-            (6, '=', "", 6),
-            (7, '-', "", 8),
-            (8, '~', "", 10),
-            (9, 'w', "aZ", 13),
-            (10, 'q', "b c", 15),
-            (11, '.', "", 20),
-            (12, '.', "", 20),
+            (0, Token::OpenBrace, 0),
+            (1, Token::CloseBrace, 1),
+            (2, Token::OpenBracket, 2),
+            (3, Token::CloseBracket, 3),
+            (4, Token::Colon, 4),
+            (5, Token::Comma, 5),
+            (6, Token::Gives, 6),
+            (7, Token::Before, 8),
+            (8, Token::Notifies, 10),
+            (9, Token::Word(b"aZ"), 13),
+            (10, Token::Quoted(b"b c"), 15),
+            (11, Token::End, 20),
+            (12, Token::End, 20),
         ];
-        for (n, sign, bytes, place) in cases {
-            case(&rt, all, n, sign, bytes, place, 1);
+        for (n, part, place) in cases {
+            let at = Position { place, line: 1 };
+            assert_eq!(rt; nth(all, n), Ok(Placed { part, at }));
         }
     }
 
     #[test]
     fn words_and_quoted_texts(rt: HostRuntime) {
         let cases = [
-            ("azAZ", 0, 'w', "azAZ", 0),
-            ("a b", 1, 'w', "b", 2),
-            ("a#b", 1, '.', "", 3),
-            ("a'b'c", 1, 'q', "b", 1),
-            ("a'b'c", 2, 'w', "c", 4),
-            ("''", 0, 'q', "", 0),
-            ("' ~#{\"'", 0, 'q', " ~#{\"", 0),
-            ("'a''b'", 1, 'q', "b", 3),
+            ("azAZ", 0, Token::Word(b"azAZ"), 0),
+            ("a b", 1, Token::Word(b"b"), 2),
+            ("a#b", 1, Token::End, 3),
+            ("a'b'c", 1, Token::Quoted(b"b"), 1),
+            ("a'b'c", 2, Token::Word(b"c"), 4),
+            ("''", 0, Token::Quoted(b""), 0),
+            ("' ~#{\"'", 0, Token::Quoted(b" ~#{\""), 0),
+            ("'a''b'", 1, Token::Quoted(b"b"), 3),
         ];
-        for (text, n, sign, bytes, place) in cases {
-            case(&rt, text, n, sign, bytes, place, 1);
+        for (text, n, part, place) in cases {
+            let at = Position { place, line: 1 };
+            assert_eq!(rt; nth(text, n), Ok(Placed { part, at }), "{}", text);
         }
     }
 
     #[test]
     fn blanks_and_lines(rt: HostRuntime) {
         let cases = [
-            ("", 0, '.', "", 0, 1),
-            (" \t\r\n", 0, '.', "", 4, 2),
-            ("a\r\nb\r\n", 1, 'w', "b", 3, 2),
-            ("a\r\nb\r\n", 2, '.', "", 6, 3),
-            ("a\rb", 1, 'w', "b", 2, 1),
-            ("# c ' # -\n\nd", 0, 'w', "d", 11, 3),
-            ("# c\r\nd", 0, 'w', "d", 5, 2),
-            ("a # to the end", 1, '.', "", 14, 1),
-            ("#", 0, '.', "", 1, 1),
-            ("\n#\n{", 0, '{', "", 3, 3),
+            ("", 0, Token::End, 0, 1),
+            (" \t\r\n", 0, Token::End, 4, 2),
+            ("a\r\nb\r\n", 1, Token::Word(b"b"), 3, 2),
+            ("a\r\nb\r\n", 2, Token::End, 6, 3),
+            ("a\rb", 1, Token::Word(b"b"), 2, 1),
+            ("# c ' # -\n\nd", 0, Token::Word(b"d"), 11, 3),
+            ("# c\r\nd", 0, Token::Word(b"d"), 5, 2),
+            ("a # to the end", 1, Token::End, 14, 1),
+            ("#", 0, Token::End, 1, 1),
+            ("\n#\n{", 0, Token::OpenBrace, 3, 3),
         ];
-        for (text, n, sign, bytes, place, line) in cases {
-            case(&rt, text, n, sign, bytes, place, line);
+        for (text, n, part, place, line) in cases {
+            let at = Position { place, line };
+            assert_eq!(rt; nth(text, n), Ok(Placed { part, at }), "{}", text);
         }
     }
 
@@ -148,7 +106,8 @@ mod tests {
             ("'\u{1f}", 0, 1, 1),
         ];
         for (text, n, place, line) in cases {
-            case(&rt, text, n, '!', "", place, line);
+            let at = Position { place, line };
+            assert_eq!(rt; nth(text, n), Err(LexFault { at }), "{}", text);
         }
         let f = LexFault {
             at: Position::start(),
@@ -164,8 +123,38 @@ mod tests {
             line: usize::MAX,
         };
         let t = at.next_token(b"a\n")?;
-        assert!(rt; matches!(t.token, Token::End));
+        assert_eq!(rt; t.part, Token::End);
         assert_eq!(rt; at.place, 9);
         Ok(())
+    }
+
+    #[test]
+    fn positions_read_on(rt: HostRuntime) -> Result<(), Fail> {
+        let text = b"a\n b";
+        let mut at = Position::start();
+        assert_eq!(rt; at.next_token(text)?.part, Token::Word(b"a"));
+        assert_eq!(rt; at, Position { place: 1, line: 1 });
+        let t = at.next_token(text)?;
+        assert_eq!(rt; t.part, Token::Word(b"b"));
+        assert_eq!(rt; t.at, Position { place: 3, line: 2 });
+        assert_eq!(rt; at, Position { place: 4, line: 2 });
+        Ok(())
+    }
+
+    #[test]
+    fn readers_at_a_place(rt: HostRuntime) {
+        let text = b"a\n\nb";
+        let cases = [
+            (0, Some(1)),
+            (1, Some(1)),
+            (2, Some(2)),
+            (3, Some(3)),
+            (4, Some(3)),
+            (5, None),
+        ];
+        for (place, line) in cases {
+            let at = Reader::at_place(text, place).map(|r| r.position());
+            assert_eq!(rt; at, line.map(|line| Position { place, line }));
+        }
     }
 }

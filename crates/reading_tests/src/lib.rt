@@ -7,7 +7,8 @@ mod tests {
     use chains::chain::next_chain;
     use declarations::Resource;
     use declarations::declared::next_declaration;
-    use lexer::Position;
+    use faults::Numbered;
+    use lexer::{Position, Reader};
     use std::test::Fail;
     use syntax::{Arrow, Kind, TextError};
 
@@ -15,17 +16,17 @@ mod tests {
     fn refusal(r: Result<(), TextError>) -> (u8, usize) {
         match r {
             Ok(()) => (0, 0),
-            Err(TextError::Fault(f)) => (f.ground.number(), f.at.place),
+            Err(TextError::Fault(f)) => (f.number(), f.at.place),
             Err(TextError::Memory) => (255, 0),
         }
     }
 
     // The sign of the resource that a file's declaration asks for, or the number of its refusal, with the place of its title or of the refused part.
     fn file(text: &str) -> (char, u8, usize) {
-        let mut at = Position::start();
-        match next_declaration(text.as_bytes(), &mut at, Kind::File) {
-            Ok(d) => (sign(d.resource), 0, d.at.place),
-            Err(f) => ('!', f.ground.number(), f.at.place),
+        let mut reader = Reader::new(text.as_bytes());
+        match next_declaration(&mut reader, Kind::File) {
+            Ok(d) => (sign(d.part), 0, d.at.place),
+            Err(f) => ('!', f.number(), f.at.place),
         }
     }
 
@@ -64,8 +65,8 @@ mod tests {
 
     // Reads the chain of a text that begins with `File`.
     fn chain<'a>(text: &'a [u8], links: &mut Vec<Link<'a>>) -> Result<(), TextError> {
-        let mut at = Position { place: 4, line: 1 };
-        next_chain(text, &mut at, Kind::File, Position::start(), links)
+        let mut reader = Reader::at_place(text, 4).unwrap_or(Reader::new(text));
+        next_chain(&mut reader, Kind::File, Position::start(), links)
     }
 
     #[test]
@@ -75,8 +76,8 @@ mod tests {
         assert!(rt; refusal(chain(text, &mut links)) == (0, 0));
         assert_eq!(rt; links.len(), 2);
         let (one, two) = (links[0], links[1]);
-        assert!(rt; one.arrow == Arrow::Before && two.arrow == Arrow::Notifies);
-        assert!(rt; one.at.place == 11 && two.at.place == 28);
+        assert!(rt; one.arrow.part == Arrow::Before && two.arrow.part == Arrow::Notifies);
+        assert!(rt; one.arrow.at.place == 11 && two.arrow.at.place == 28);
         assert!(rt; one.left.kind == Kind::File && one.left.title == b"/a".as_slice());
         assert!(rt; one.right.kind == Kind::Package && one.right.title == b"fx".as_slice());
         assert!(rt; two.left.kind == Kind::Package && two.left.at.place == 14);

@@ -3,18 +3,23 @@ use Rattle.std.proofs.Common.{◌≡◌, ℕ, IsErrAnd, Some, None, Ok, Err, Opt
 use Rattle.std.specs.Option.{ok_or}
 use Rattle.lexer.specs.Rows.{Row}
 use Rattle.lexer.specs.declared.position.Position.{Position}
+use Rattle.lexer.specs.declared.fault.LexFault.{LexFault}
 use Rattle.syntax.specs.declared.fault.Ground.{Ground}
-use Rattle.syntax.specs.declared.fault.TextFault.{TextFault}
-use Rattle.syntax.specs.declared.error.TextError.{TextError}
-use Rattle.syntax.specs.declared.error.TextError.TheVariants.{Fault, Memory}
-use Rattle.syntax.specs.Errors.{Told}
-use Rattle.syntax.specs.Faults.{fault_at}
+use Rattle.syntax.specs.declared.fault.Ground.TheVariants.{NoToken}
+use Rattle.faults.specs.declared.error.ReadError.TheVariants.{Fault, Memory}
+use Rattle.syntax.specs.Errors.{TextError, Told}
+use Rattle.syntax.specs.Faults.{TextFault, fault_at, no_token}
 use Rattle.syntax.specs.Reading.{Read, read, refused, after, or_refuse, checked, answer}
 
 -- what the exit of a `?` answers
 pub exits : {A B : Type 0} (f : A → B) (r : Result A TextFault) (q : Row) {e : TextFault} → IsErrAnd r (λ y. y ≡ e) → answer f r q ≡ refused e
 exits f (Ok x) q h = absurd h
 exits f (Err y) q h = ap refused h
+
+-- the same of a fault of the tokens
+pub breaks_off : {A B : Type 0} (f : A → B) (r : Result A TextFault) (q : Row) {e : LexFault} → IsErrAnd r (λ l. (l.ground ≡ NoToken) × (l.at ≡ e.at)) → answer f r q ≡ refused (no_token e)
+breaks_off f (Ok x) q h = absurd h
+breaks_off f (Err l) q h = λ i. refused (record { ground = h.0 i; at = h.1 i })
 
 -- on past a step, or out with its fault
 module _ {A B : Type 0} (k : A → Row → Read B) {m : Read A} where
@@ -60,8 +65,3 @@ module _ {A B : Type 0} (x : A → B) (q : Row) (m : Read B) where
   wants (Ok y) h = absurd h
   wants (Err (Fault g)) h = let z : ◌≡◌ {A = ℕ} 0 1 = cc in absurd (omega arith)
   wants (Err Memory) h = tt
-
-  -- what a callee of this kind was told, and how its fault stops the reading
-  pub passes : {C D : Type 0} (y : C → D) (p : Row) (n : Read D) (r : Result A TextError) (e : TextError) → IsErrAnd r (λ y. y ≡ e) → Told (Err e) y p n → ((f : TextFault) → refused f ≡ n → refused f ≡ m) → Told r x q m
-  passes y p n r (Fault f) h t k = fails r h (k f t)
-  passes y p n r Memory h t k = wants r h

@@ -2,7 +2,7 @@
 use Rattle.std.proofs.Common.{◌≡◌, ◌<◌, ◌≤◌, true, false, cond, sym, refl, ap, ◌∙◌, arith}
 use Rattle.std.proofs.lemmas.Bool.{cond-true, cond-false, lt-ltb, le-ltb}
 use Rattle.lexer.specs.declared.position.Position.{Position}
-use Rattle.syntax.specs.declared.fault.TextFault.{TextFault}
+use Rattle.syntax.specs.Faults.{TextFault}
 use Rattle.lexer.specs.Lexing.{Lexeme}
 use Rattle.lexer.specs.Rows.{Row, token, ended, broken}
 use Rattle.syntax.specs.Reading.{Read, read, refused, after}

@@ -1,11 +1,11 @@
 -- The numbers of the refusals of a text, and their positions. Assumes nothing.
-use Rattle.std.specs.Prelude.{ℕ, Ok, Err, Result}
+use Rattle.std.specs.Prelude.{ℕ}
+use Rattle.faults.specs.declared.located.Located.{Located}
 use Rattle.values.specs.declared.fault.ValueFault.TheVariants.{Malformed, TooLong}
 use Rattle.lexer.specs.declared.fault.LexFault.{LexFault}
 use Rattle.lexer.specs.declared.position.Position.{Position}
 use Rattle.syntax.specs.declared.fault.Ground.{Ground}
 use Rattle.syntax.specs.declared.fault.Ground.TheVariants.{TextTooLong, NoToken, Unexpected, Value, Attribute, NotAllowed, Incomplete, NotInIndex, Repeated, TooMany, NoResource, NoNotice}
-use Rattle.syntax.specs.declared.fault.TextFault.{TextFault}
 
 abbrev pub ground_number : Ground → ℕ
 ground_number TextTooLong = 11
@@ -22,14 +22,12 @@ ground_number TooMany = 20
 ground_number NoResource = 21
 ground_number NoNotice = 22
 
+abbrev pub TextFault : Type 0
+TextFault = Located Ground Position
+
 abbrev pub fault_at : Position → (ground : Ground) → TextFault
 fault_at p g = record { ground = g; at = p }
 
 -- a fault of the tokens is one of the text, at its own position
 abbrev pub no_token : LexFault → TextFault
 no_token f = fault_at f.at NoToken
-
--- an answer whose refusal has the position p
-abbrev pub located : {X : Type 0} → Position → Result X Ground → Result X TextFault
-located p (Ok x) = Ok x
-located p (Err g) = Err (fault_at p g)

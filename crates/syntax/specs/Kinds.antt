@@ -16,6 +16,12 @@ ref_word File = codes "File"
 ref_word Package = codes "Package"
 ref_word Service = codes "Service"
 
+-- the word of a kind, of those of the three
+abbrev pub spelling : List ℕ → List ℕ → List ℕ → Kind → List ℕ
+spelling f p s File = f
+spelling f p s Package = p
+spelling f p s Service = s
+
 -- the kind of a word, where `spelled` spells kinds
 unfoldable pub kind_by : (Kind → List ℕ) → List ℕ → Option Kind
 kind_by spelled w =

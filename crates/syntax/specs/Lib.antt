@@ -4,4 +4,5 @@ pub mod Reading
 pub mod Repeating
 pub mod Tokens
 pub mod Parts
+pub mod Picking
 pub mod Errors

@@ -1,13 +1,12 @@
 -- What is read off a row of tokens, and how one reading goes on with another. Assumes nothing.
-use Rattle.std.specs.Prelude.{◌≡◌, ℕ, List, Some, None, Ok, Err, Option, Result}
-use Rattle.lexer.specs.Bytes.{Stands}
+use Rattle.std.specs.Prelude.{◌≡◌, ◌^◌, ◌<◌, length, Some, None, Ok, Err, Option, Result}
 use Rattle.lexer.specs.Lexing.{Lexeme}
 use Rattle.lexer.specs.Rows.{Row, token, ended, broken, row_from}
 use Rattle.lexer.specs.declared.position.Position.{Position}
+use Rattle.lexer.specs.declared.reader.Reader.{Reader}
 use Rattle.syntax.specs.declared.fault.Ground.{Ground}
 use Rattle.syntax.specs.declared.fault.Ground.TheVariants.{Unexpected}
-use Rattle.syntax.specs.declared.fault.TextFault.{TextFault}
-use Rattle.syntax.specs.Faults.{fault_at, no_token}
+use Rattle.syntax.specs.Faults.{TextFault, fault_at, no_token}
 
 -- what was read and the row past it, or the first fault
 pub data Read (A : Type 0) : Type 0 where
@@ -48,7 +47,15 @@ abbrev pub answer : {A B : Type 0} → (A → B) → Result A TextFault → Row 
 answer f (Ok x) r = read (f x) r
 answer f (Err e) r = refused e
 
--- a reader that came from one position to another answers, as f means it, what the grammar reads off the row there, and stands in the text again
-pub record Reads {A B : Type 0} (f : A → B) (grammar : Row → Read B) (text : List ℕ) (from : Position) (r : Result A TextFault) (to : Position) : Type 0 where
-  pub stands : Stands text to
-  pub answers : answer f r (row_from text to.place) ≡ grammar (row_from text from.place)
+-- the row of tokens from the reader's place on
+abbrev pub ahead : Reader → Row
+ahead r = row_from r.text.now r.at.place
+
+-- lines are counted rightly in a text of this length
+abbrev pub Short : Reader → Type 0
+Short r = length r.text.now < 2 ^ 32
+
+-- a reader that came from one place of a text to another answers, as f means it, what the grammar reads off the row there
+pub record Reads {A B : Type 0} (f : A → B) (grammar : Row → Read B) (from : Reader) (r : Result A TextFault) (to : Reader) : Type 0 where
+  pub text : to.text.now ≡ from.text.now
+  pub answers : Short from → answer f r (ahead to) ≡ grammar (ahead from)

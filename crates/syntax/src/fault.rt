@@ -1,9 +1,8 @@
-ghost use Rattle.std.specs.Prelude.{◌≡◌, Result as Outcome};
-ghost use Rattle.lexer.specs.declared.position.Position.{Position as Place};
-ghost use Rattle.syntax.specs.Faults.{ground_number, located, no_token};
-ghost use Rattle.syntax.specs.declared.fault.Ground.TheVariants.{Value as Refused};
-ghost use Rattle.syntax.specs.declared.fault.TextFault.{TextFault as Located};
+ghost use Rattle.std.specs.Prelude.{◌≡◌};
+ghost use Rattle.syntax.specs.Faults.{ground_number};
+ghost use Rattle.syntax.specs.declared.fault.Ground.TheVariants.{NoToken, Value as Refused};
 
+use faults::{Located, Numbered};
 use lexer::{LexFault, Position};
 use values::ValueFault;
 
@@ -36,17 +35,12 @@ pub enum Ground {
 }
 
 // A ground, with the position of the refused part's first byte.
-#[derive(Clone, Copy, PartialEq, Eq, Debug)]
-pub struct TextFault {
-    pub ground: Ground,
-    pub at: Position,
-}
+pub type TextFault = Located<Ground, Position>;
 
-impl Ground {
-    // The number of the refusal.
-    pub fn number(self) -> u8
-        ensures { result ≡ ground_number self }
-    {
+impl Numbered for Ground {
+    ghost number_of = { ground_number };
+
+    fn number(self) -> u8 {
         match self {
             Ground::TextTooLong => 11,
             Ground::NoToken => 12,
@@ -72,35 +66,10 @@ impl From<ValueFault> for Ground {
     }
 }
 
-impl From<LexFault> for TextFault {
-    ghost from_gives = { λ f g. g ≡ no_token f };
+impl From<LexFault> for Ground {
+    ghost from_gives = { λ _ g. g ≡ NoToken };
 
-    fn from(fault: LexFault) -> TextFault {
-        TextFault {
-            ground: Ground::NoToken,
-            at: fault.at,
-        }
-    }
-}
-
-// Gives a refusal the position of the part that is refused.
-pub trait AtPosition<T> {
-    ghost placed: { Place → Self → Outcome T Located → Type 0 };
-
-    fn at(self, position: Position) -> Result<T, TextFault>
-        ensures { placed position self result };
-}
-
-impl<T> AtPosition<T> for Result<T, Ground> {
-    ghost placed = { λ p s r. r ≡ located p s };
-
-    fn at(self, position: Position) -> Result<T, TextFault> {
-        match self {
-            Ok(value) => Ok(value),
-            Err(ground) => Err(TextFault {
-                ground,
-                at: position,
-            }),
-        }
+    fn from(_fault: LexFault) -> Ground {
+        Self::NoToken
     }
 }

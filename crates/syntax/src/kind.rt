@@ -1,6 +1,5 @@
 ghost use Rattle.std.specs.Prelude.{◌≡◌};
-ghost use Rattle.fs.specs.Tree.{same as same_bytes};
-ghost use Rattle.syntax.specs.Kinds.{declared_kind, referred_kind};
+ghost use Rattle.syntax.specs.Kinds.{spelling, kind_by, declared_kind, referred_kind};
 
 // The kinds of resources.
 #[derive(Clone, Copy, PartialEq, Eq, Debug)]
@@ -10,11 +9,20 @@ pub enum Kind {
     Service,
 }
 
-// Whether two parts of a text have the same bytes.
-pub fn same(a: &[u8], b: &[u8]) -> bool
-    ensures { result ≡ same_bytes a.now b.now }
+// The kind whose word this is, of the words of the three kinds.
+#[tactic(auto, using(crate::proofs::Words::same_pointwise), unfolding(crate::specs::Kinds::kind_by))]
+fn spelled(word: &[u8], of_file: &[u8], of_package: &[u8], of_service: &[u8]) -> Option<Kind>
+    ensures { result ≡ kind_by (spelling of_file.now of_package.now of_service.now) word.now }
 {
-    a == b
+    if word == of_file {
+        Some(Kind::File)
+    } else if word == of_package {
+        Some(Kind::Package)
+    } else if word == of_service {
+        Some(Kind::Service)
+    } else {
+        None
+    }
 }
 
 impl Kind {
@@ -22,29 +30,13 @@ impl Kind {
     pub fn declared(word: &[u8]) -> Option<Kind>
         ensures { result ≡ declared_kind word.now }
     {
-        if same(word, b"file") {
-            Some(Kind::File)
-        } else if same(word, b"package") {
-            Some(Kind::Package)
-        } else if same(word, b"service") {
-            Some(Kind::Service)
-        } else {
-            None
-        }
+        spelled(word, b"file", b"package", b"service")
     }
 
     // The kind that a reference begins with.
     pub fn referred(word: &[u8]) -> Option<Kind>
         ensures { result ≡ referred_kind word.now }
     {
-        if same(word, b"File") {
-            Some(Kind::File)
-        } else if same(word, b"Package") {
-            Some(Kind::Package)
-        } else if same(word, b"Service") {
-            Some(Kind::Service)
-        } else {
-            None
-        }
+        spelled(word, b"File", b"Package", b"Service")
     }
 }

@@ -15,4 +15,4 @@ pub use error::TextError;
 pub use fault::{Ground, TextFault};
 pub use kind::Kind;
 pub use mark::Mark;
-pub use part::{Part, PlacedValue, Value};
+pub use part::Value;

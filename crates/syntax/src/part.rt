@@ -1,51 +1,28 @@
-// Single tokens, as the grammar wants them. A position that does not stand in the text is safe, and nothing is said of it.
+// Single tokens, as the grammar wants them. Each part has the position of its token's first byte, a quoted text's opening quote.
 ghost use Rattle.std.specs.Prelude.{◌≡◌};
 ghost use Rattle.std.specs.Option.{option_map};
-ghost use Rattle.lexer.specs.Bytes.{Stands};
 ghost use Rattle.lexer.specs.Lexing.{sight};
 ghost use Rattle.lexer.specs.declared.position.Position.{Position as Place};
-ghost use Rattle.syntax.specs.Faults.{fault_at};
-ghost use Rattle.syntax.specs.Parts.{part_of, value_means, placed_value, placed_mark};
+ghost use Rattle.syntax.specs.Parts.{bytes, value_means, placed_as, placed_mark};
 ghost use Rattle.syntax.specs.Reading.{Reads, taken};
-ghost use Rattle.syntax.specs.Tokens.{word_of, quoted_of, value_of, mark_of, is_marked, the_mark, of_seen};
-ghost use Rattle.syntax.specs.declared.fault.Ground.TheVariants.{Unexpected};
+ghost use Rattle.syntax.specs.Picking.{Picks};
+ghost use Rattle.syntax.specs.Tokens.{word_of, quoted_of, value_of, mark_of, the_mark, of_seen};
 
 use crate::fault::{Ground, TextFault};
 use crate::mark::Mark;
-use lexer::{Position, Token};
-
-// A word, or a quoted text without its quotes, as that part of the text. The position is that of the token's first
-// byte, a quoted text's opening quote.
-#[derive(Clone, Copy)]
-pub struct Part<'a> {
-    pub bytes: &'a [u8],
-    pub at: Position,
-}
+use faults::Numbered;
+use lexer::{Placed, Position, Reader, Token};
 
 // What an attribute is given.
 #[derive(Clone, Copy)]
 pub enum Value<'a> {
     Word(&'a [u8]),
+    // Without its quotes.
     Quoted(&'a [u8]),
 }
 
-#[derive(Clone, Copy)]
-pub struct PlacedValue<'a> {
-    pub value: Value<'a>,
-    pub at: Position,
-}
-
-fn unexpected(at: Position) -> TextFault
-    ensures { result ≡ fault_at at Unexpected }
-{
-    TextFault {
-        ground: Ground::Unexpected,
-        at,
-    }
-}
-
 fn word_in<'a>(token: Token<'a>) -> Option<&'a [u8]>
-    ensures { (p : Place) → option_map (λ s. s.now) result ≡ of_seen word_of (sight token.entry p) }
+    ensures { (p : Place) → option_map bytes result ≡ of_seen word_of (sight token.entry p) }
 {
     match token {
         Token::Word(bytes) => Some(bytes),
@@ -54,7 +31,7 @@ fn word_in<'a>(token: Token<'a>) -> Option<&'a [u8]>
 }
 
 fn quoted_in<'a>(token: Token<'a>) -> Option<&'a [u8]>
-    ensures { (p : Place) → option_map (λ s. s.now) result ≡ of_seen quoted_of (sight token.entry p) }
+    ensures { (p : Place) → option_map bytes result ≡ of_seen quoted_of (sight token.entry p) }
 {
     match token {
         Token::Quoted(bytes) => Some(bytes),
@@ -85,50 +62,49 @@ fn mark_in(token: Token<'_>) -> Option<Mark>
     }
 }
 
-fn is_marked(wanted: Mark, found: Option<Mark>) -> bool
-    ensures { result ≡ is_marked wanted found }
+fn this_mark(wanted: Mark, token: Token<'_>) -> Option<()>
+    ensures { (p : Place) → result ≡ of_seen (the_mark wanted) (sight token.entry p) }
 {
-    match found {
-        Some(mark) => mark as u8 == wanted as u8,
-        None => false,
-    }
+    (mark_in(token) == Some(wanted)).then_some(())
+}
+
+// The next token as what `pick` makes of it; where that is nothing, the grammar allows no such token here.
+pub fn next_as<'a, T, F: Fn(Token<'a>) -> Option<T>>(
+    reader: &mut Reader<'a>,
+    pick: F,
+) -> Result<Placed<T>, TextFault>
+    requires { F.IsAlwaysCallable pick }
+    ensures { Picks (F.post pick) reader.old result reader.new }
+{
+    let t = reader.next_token()?;
+    let part = pick(t.part).ok_or(Ground::Unexpected.at(t.at))?;
+    Ok(Placed { part, at: t.at })
 }
 
 // The next token, which is to be a word.
-pub fn next_word<'a>(text: &'a [u8], at: &mut Position) -> Result<Part<'a>, TextFault>
-    ensures { Stands text.now at.old → Reads part_of (taken word_of) text.now at.old result at.new }
+pub fn next_word<'a>(reader: &mut Reader<'a>) -> Result<Placed<&'a [u8]>, TextFault>
+    ensures { Reads (placed_as bytes) (taken word_of) reader.old result reader.new }
 {
-    let t = at.next_token(text)?;
-    let bytes = word_in(t.token).ok_or(unexpected(t.at))?;
-    Ok(Part { bytes, at: t.at })
+    next_as(reader, word_in)
 }
 
 // The next token, which is to be a quoted text.
-pub fn next_quoted<'a>(text: &'a [u8], at: &mut Position) -> Result<Part<'a>, TextFault>
-    ensures { Stands text.now at.old → Reads part_of (taken quoted_of) text.now at.old result at.new }
+pub fn next_quoted<'a>(reader: &mut Reader<'a>) -> Result<Placed<&'a [u8]>, TextFault>
+    ensures { Reads (placed_as bytes) (taken quoted_of) reader.old result reader.new }
 {
-    let t = at.next_token(text)?;
-    let bytes = quoted_in(t.token).ok_or(unexpected(t.at))?;
-    Ok(Part { bytes, at: t.at })
+    next_as(reader, quoted_in)
 }
 
 // The next token, which is to be a word or a quoted text.
-pub fn next_value<'a>(text: &'a [u8], at: &mut Position) -> Result<PlacedValue<'a>, TextFault>
-    ensures { Stands text.now at.old → Reads placed_value (taken value_of) text.now at.old result at.new }
+pub fn next_value<'a>(reader: &mut Reader<'a>) -> Result<Placed<Value<'a>>, TextFault>
+    ensures { Reads (placed_as value_means) (taken value_of) reader.old result reader.new }
 {
-    let t = at.next_token(text)?;
-    let value = value_in(t.token).ok_or(unexpected(t.at))?;
-    Ok(PlacedValue { value, at: t.at })
+    next_as(reader, value_in)
 }
 
 // The next token, which is to be this mark; its position.
-pub fn next_mark(text: &[u8], at: &mut Position, wanted: Mark) -> Result<Position, TextFault>
-    ensures { Stands text.now at.old → Reads placed_mark (taken (the_mark wanted)) text.now at.old result at.new }
+pub fn next_mark(reader: &mut Reader<'_>, wanted: Mark) -> Result<Position, TextFault>
+    ensures { Reads placed_mark (taken (the_mark wanted)) reader.old result reader.new }
 {
-    let t = at.next_token(text)?;
-    if is_marked(wanted, mark_in(t.token)) {
-        Ok(t.at)
-    } else {
-        Err(unexpected(t.at))
-    }
+    Ok(next_as(reader, |token| this_mark(wanted, token))?.at)
 }

@@ -1,6 +1,5 @@
 use Rattle.std.proofs.Common.{◌≡◌, ◌-◌, length, map, take, vec_items, vec_len}
-use Rattle.lexer.specs.Bytes.{Stands}
-use Rattle.lexer.specs.Rows.{row_from}
+use Rattle.syntax.specs.Reading.{ahead, Short}
 use Rattle.syntax.specs.Repeating.{repeated}
 use Rattle.grammar.specs.Chains.{chain_turn}
 use Rattle.chains.specs.Meanings.{ref_of, link_of}
@@ -10,9 +9,9 @@ use Rattle.chains.proofs.chain.next_chain.Given as goal
 abbrev pub invariant-loop-next : goal.invariant-loop-next
 invariant-loop-next l =
     (take (length (vec_items l.initial.links)) (vec_items l.links) ≡ vec_items l.initial.links)
-    × (Stands l.text l.initial.at → Stands l.text l.at
-    × (repeated chain_turn (record { left = ref_of l.left; links = map link_of (vec_items l.links) }) (row_from l.text l.at.place)
-    ≡ repeated chain_turn (record { left = ref_of l.initial.left; links = map link_of (vec_items l.initial.links) }) (row_from l.text l.initial.at.place)))
+    × (l.reader.text.now ≡ l.initial.reader.text.now)
+    × (Short l.initial.reader → repeated chain_turn (record { left = ref_of l.left; links = map link_of (vec_items l.links) }) (ahead l.reader)
+    ≡ repeated chain_turn (record { left = ref_of l.initial.left; links = map link_of (vec_items l.initial.links) }) (ahead l.initial.reader))
 
 abbrev pub decreases-loop-next : goal.decreases-loop-next
 decreases-loop-next l = 64 - vec_len l.links

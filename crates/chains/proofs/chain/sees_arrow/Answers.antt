@@ -1,16 +1,18 @@
-use Rattle.std.proofs.Common.{is_some, ap, ◌∙◌}
-use Rattle.lexer.specs.Lexing.{sight}
-use Rattle.lexer.specs.Rows.{row_from}
-use Rattle.syntax.specs.Reading.{read}
-use Rattle.syntax.proofs.Steps.{exits}
+use Rattle.std.proofs.Common.{is_some, refl, ap, ◌∙◌}
+use Rattle.lexer.specs.Rows.{placed_sight}
+use Rattle.syntax.specs.Reading.{read, ahead}
+use Rattle.syntax.proofs.Steps.{breaks_off}
 use Rattle.chains.proofs.Arrows.{seen_follows, broken_follows}
 use Rattle.chains.proofs.chain.sees_arrow.Goals as goal
 
 pub returns-in_err-t : goal.returns-in_err-t
-returns-in_err-t c s = exits (λ b. b) _ _ c.from_residual.ensures.1 ∙ broken_follows _ _ (c.in_err-t.ensures.row s)
+returns-in_err-t c = record { text = refl; answers = λ s. breaks_off (λ b. b) _ _ c.from_residual.ensures.1 ∙ broken_follows _ _ (c.in_err-t.ensures.row s) }
 
 pub returns : goal.returns
-returns c s =
+returns c =
     let t = c.in_ok-t.t in
-    let row = row_from c.args.text.now c.args.at.place in
-    ap (λ b. read b row) (c.is_some.ensures ∙ ap is_some (c.arrow_in.ensures t.at)) ∙ seen_follows (sight t.token t.at) _ _ (c.in_ok-t.ensures.row s)
+    let row = ahead c.args.reader in
+    record {
+      text = refl;
+      answers = λ s. ap (λ b. read b row) (c.is_some.ensures ∙ ap is_some (c.arrow_in.ensures t.at)) ∙ seen_follows (placed_sight t) _ _ (c.in_ok-t.ensures.row s);
+    }

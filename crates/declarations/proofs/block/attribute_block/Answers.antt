@@ -1,63 +1,51 @@
-use Rattle.std.proofs.Common.{◌≡◌, false, sym, refl, ap, ◌∙◌}
-use Rattle.lexer.specs.Rows.{row_from}
-use Rattle.syntax.specs.Reading.{read}
-use Rattle.syntax.proofs.Progress.{left_below}
-use Rattle.syntax.proofs.Steps.{exits, then, stop}
-use Rattle.syntax.proofs.Turns.{turn_more, turn_last, turn_fault}
-use Rattle.grammar.specs.Declarations.{member, attributes}
+use Rattle.std.proofs.Common.{◌≡◌, Bool, sym, refl, ap, ◌∙◌, subst}
+use Rattle.syntax.specs.Reading.{ahead, Short}
+use Rattle.syntax.specs.Repeating.{Turn, repeated}
+use Rattle.syntax.proofs.Loops.{loop_quits, loop_ends, loop_goes}
+use Rattle.syntax.proofs.Readings.{quits, goes, done}
+use Rattle.grammar.specs.Declarations.{Given, member, attributes}
 use Rattle.grammar.proofs.Progress.{member_strict}
-use Rattle.declarations.specs.Meanings.{given_of}
+use Rattle.declarations.specs.Meanings.{subject_kind, given_of}
 use Rattle.declarations.proofs.block.attribute_block.Goals as goal
 
 pub loop-given-init : goal.loop-given-init
 unfolding attributes
-loop-given-init c s = (s, refl)
+loop-given-init c = (refl, refl, λ _. refl)
 
-pub returns-in_err-given : goal.returns-in_err-given
+pub returns-in_err-given-clause-reads : goal.returns-in_err-given-clause-reads
 unfolding member
-returns-in_err-given c s =
-    let i = c.loop-given.invariant s in
-    let h = c.in_err-given.ensures.reads i.0 in
-    record {
-      stands = h.stands;
-      answers = exits given_of _ _ c.from_residual.ensures.1 ∙ sym (turn_fault (member c.args.kind) _ _ (stop _ h.answers)) ∙ i.1;
-    }
+returns-in_err-given-clause-reads c =
+    let i = c.loop-given.invariant in
+    let k = subject_kind c.loop-given.given.subject in
+    loop_quits (member k) _ _ _ i.1 i.2 given_of c.from_residual.ensures.1 (quits _ c.in_err-given.ensures.reads refl)
 
-pub returns-in_err-next_closer : goal.returns-in_err-next_closer
+pub returns-in_err-next_closer-clause-reads : goal.returns-in_err-next_closer-clause-reads
 unfolding member
-returns-in_err-next_closer c s =
-    let i = c.loop-given.invariant s in
-    let a = c.in_ok-given.ensures.reads i.0 in
-    let h = c.in_err-next_closer.ensures a.stands in
-    record {
-      stands = h.stands;
-      answers = exits given_of _ _ c.from_residual-in_err-next_closer.ensures.1 ∙ sym (turn_fault (member c.args.kind) _ _ (then _ a.answers (stop _ h.answers))) ∙ i.1;
-    }
+returns-in_err-next_closer-clause-reads c =
+    let i = c.loop-given.invariant in
+    let k = subject_kind c.loop-given.given.subject in
+    loop_quits (member k) _ _ _ i.1 i.2 given_of c.from_residual-in_err-next_closer.ensures.1 (goes _ c.in_ok-given.ensures.reads (quits _ c.in_err-next_closer.ensures refl))
 
-pub returns-then-branch : goal.returns-then-branch
+pub returns-then-branch-clause-reads : goal.returns-then-branch-clause-reads
 unfolding member
-returns-then-branch c s =
-    let i = c.loop-given.invariant s in
-    let a = c.in_ok-given.ensures.reads i.0 in
-    let h = c.in_ok-next_closer.ensures a.stands in
-    let q = row_from c.args.text.now c.next_closer.new.at.place in
-    record {
-      stands = h.stands;
-      answers =
-          sym (turn_last (member c.args.kind) _ _ q (then _ a.answers (then _ h.answers (ap (λ b. read (record { state = given_of c.in_ok-given.given; last = b }) q) (sym c.if-branch.true)))))
-          ∙ i.1;
-    }
-
-pub loop-given-smaller : goal.loop-given-smaller
-loop-given-smaller c = c.in_ok-given.ensures.fewer
+returns-then-branch-clause-reads c =
+    let i = c.loop-given.invariant in
+    let k = subject_kind c.loop-given.given.subject in
+    let g = c.in_ok-given.given in
+    let turn : Bool → Turn Given = λ b. record { state = given_of g; last = b } in
+    loop_ends (member k) _ _ _ i.1 i.2 given_of g (goes _ c.in_ok-given.ensures.reads (goes _ c.in_ok-next_closer.ensures (done (λ t. t) _ (ap turn (sym c.if-branch.true)))))
 
 pub loop-given-preserved : goal.loop-given-preserved
 unfolding member
-loop-given-preserved c s =
-    let i = c.loop-given.invariant s in
-    let a = c.in_ok-given.ensures.reads i.0 in
-    let h = c.in_ok-next_closer.ensures a.stands in
-    let q = row_from c.args.text.now c.next_closer.new.at.place in
-    let t : read (record { state = given_of c.in_ok-given.given; last = false }) q ≡ member c.args.kind (given_of c.loop-given.given) (row_from c.args.text.now c.loop-given.at.place) = then _ a.answers (then _ h.answers (ap (λ b. read (record { state = given_of c.in_ok-given.given; last = b }) q) (sym c.if-branch.false))) in
-    let below = left_below _ (member_strict _ _ _) t in
-    (h.stands, sym (turn_more (member c.args.kind) _ _ _ t below) ∙ i.1)
+loop-given-preserved c =
+    let i = c.loop-given.invariant in
+    let k = subject_kind c.loop-given.given.subject in
+    let g = c.in_ok-given.given in
+    let turn : Bool → Turn Given = λ b. record { state = given_of g; last = b } in
+    let t = goes _ c.in_ok-given.ensures.reads (goes _ c.in_ok-next_closer.ensures (done (λ t. t) _ (ap turn (sym c.if-branch.false)))) in
+    let kept = c.in_ok-given.ensures.kept in (
+      kept ∙ i.0,
+      c.in_ok-next_closer.ensures.text ∙ c.in_ok-given.ensures.reads.text ∙ i.1,
+      subst (λ u. Short c.args.reader.now → repeated (member (subject_kind u)) (given_of g) (ahead c.next_closer.new.reader) ≡ attributes (subject_kind c.args.subject) (ahead c.args.reader.now)) (sym kept)
+          (loop_goes (member k) _ (attributes (subject_kind c.args.subject)) c.args.reader.now i.1 i.2 (member_strict k _) t),
+    )

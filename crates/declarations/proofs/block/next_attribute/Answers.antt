@@ -1,16 +1,12 @@
-use Rattle.std.proofs.Common.{◌≡◌, ℕ, ◌<◌, IfOk, Ok, Err, Result, sym, ap, ◌∙◌, subst}
-use Rattle.std.proofs.lemmas.Result.{IfOk-from_err}
-use Rattle.lexer.specs.Rows.{row_from}
+use Rattle.std.proofs.Common.{rules, ◌≡◌, ℕ, ◌<◌, IfOk, Ok, Err, Result, sym, ◌∙◌, subst}
 use Rattle.lexer.specs.declared.position.Position.{Position}
 use Rattle.syntax.specs.declared.fault.Ground.{Ground}
-use Rattle.syntax.specs.Faults.{located}
 use Rattle.syntax.specs.Parts.{value_means}
-use Rattle.syntax.specs.Reading.{refused, answer}
+use Rattle.syntax.proofs.Readings.{quits, goes, has, lacking}
 use Rattle.grammar.specs.Declarations.{Given, with_value, attribute}
-use Rattle.syntax.proofs.Steps.{exits, then, stop, there, missing, lacks}
-use Rattle.declarations.specs.Meanings.{Tells, given_of, spare}
+use Rattle.declarations.specs.Meanings.{Tells, subject_kind, given_of, spare}
 use Rattle.declarations.specs.declared.given.Given.{Given as GivenCode}
-use Rattle.declarations.proofs.Blocks.{ends}
+use Rattle.declarations.proofs.Checks.{located, located_by, ends}
 use Rattle.declarations.proofs.Spares.{fewer}
 use Rattle.declarations.proofs.block.next_attribute.Goals as goal
 
@@ -19,84 +15,42 @@ less : (r : Result GivenCode Ground) (p : Position) (a : Result Given Ground) (n
 less (Ok g) p a n t k = k (given_of g) t
 less (Err e) p a n t k = tt
 
-pub returns-in_err-word : goal.returns-in_err-word
+pub returns-in_err-word-clause-reads : goal.returns-in_err-word-clause-reads
 unfolding attribute
-returns-in_err-word c = record {
-  reads =
-      λ s.
-      let h = c.in_err-word.ensures s in
-      record { stands = h.stands; answers = exits given_of _ _ c.from_residual.ensures.1 ∙ stop _ h.answers };
-  fewer = IfOk-from_err _ _ c.from_residual.ensures.0;
-}
+returns-in_err-word-clause-reads c = quits _ c.in_err-word.ensures c.from_residual.ensures.1
 
-pub returns-in_err-attribute : goal.returns-in_err-attribute
+pub returns-in_err-attribute-clause-reads : goal.returns-in_err-attribute-clause-reads
 unfolding attribute
-returns-in_err-attribute c = record {
-  reads =
-      λ s.
-      let w = c.in_ok-word.ensures s in
-      let o = c.in_err-attribute.ensures in
-      record {
-        stands = w.stands;
-        answers =
-            exits given_of _ _ c.from_residual-in_err-attribute.ensures.1
-            ∙ then _ w.answers (ap refused (lacks _ o.value).1 ∙ missing _ _ _ (sym o.ok_part ∙ c.named.ensures));
-      };
-  fewer = IfOk-from_err _ _ c.from_residual-in_err-attribute.ensures.0;
-}
+returns-in_err-attribute-clause-reads c =
+    let o = c.in_err-attribute.ensures in
+    goes _ c.in_ok-word.ensures (lacking _ _ (sym o.ok_part ∙ c.named.ensures) o.value c.at.ensures c.from_residual-in_err-attribute.ensures.1)
 
-pub returns-in_err-next_mark : goal.returns-in_err-next_mark
+pub returns-in_err-next_mark-clause-reads : goal.returns-in_err-next_mark-clause-reads
 unfolding attribute
-returns-in_err-next_mark c = record {
-  reads =
-      λ s.
-      let w = c.in_ok-word.ensures s in
-      let n = sym c.in_ok-attribute.ensures.ok_part ∙ c.named.ensures in
-      let h = c.in_err-next_mark.ensures w.stands in
-      record {
-        stands = h.stands;
-        answers = exits given_of _ _ c.from_residual-in_err-next_mark.ensures.1 ∙ then _ w.answers (there _ _ _ n (stop _ h.answers));
-      };
-  fewer = IfOk-from_err _ _ c.from_residual-in_err-next_mark.ensures.0;
-}
-
-pub returns-in_err-v : goal.returns-in_err-v
-unfolding attribute
-returns-in_err-v c = record {
-  reads =
-      λ s.
-      let w = c.in_ok-word.ensures s in
-      let n = sym c.in_ok-attribute.ensures.ok_part ∙ c.named.ensures in
-      let g = c.in_ok-next_mark.ensures w.stands in
-      let h = c.in_err-v.ensures g.stands in
-      record {
-        stands = h.stands;
-        answers = exits given_of _ _ c.from_residual-in_err-v.ensures.1 ∙ then _ w.answers (there _ _ _ n (then _ g.answers (stop _ h.answers)));
-      };
-  fewer = IfOk-from_err _ _ c.from_residual-in_err-v.ensures.0;
-}
-
-pub returns : goal.returns
-unfolding attribute
-returns c =
+returns-in_err-next_mark-clause-reads c =
     let n = sym c.in_ok-attribute.ensures.ok_part ∙ c.named.ensures in
+    goes _ c.in_ok-word.ensures (has _ _ _ n (quits _ c.in_err-next_mark.ensures c.from_residual-in_err-next_mark.ensures.1))
+
+pub returns-in_err-value-clause-reads : goal.returns-in_err-value-clause-reads
+unfolding attribute
+returns-in_err-value-clause-reads c =
+    let n = sym c.in_ok-attribute.ensures.ok_part ∙ c.named.ensures in
+    goes _ c.in_ok-word.ensures (has _ _ _ n (goes _ c.in_ok-next_mark.ensures (quits _ c.in_err-value.ensures c.from_residual-in_err-value.ensures.1)))
+
+pub returns-clause-reads : goal.returns-clause-reads
+unfolding attribute
+returns-clause-reads c =
+    let n = sym c.in_ok-attribute.ensures.ok_part ∙ c.named.ensures in
+    let l = located_by c.in_ok-value.value.at c.with.result c.map_err.result c.map_err.ensures.cases (λ g e h. search rules) in
+    goes _ c.in_ok-word.ensures (has _ _ _ n (goes _ c.in_ok-next_mark.ensures (goes _ c.in_ok-value.ensures (ends given_of _ _ c.with.result _ c.with.ensures.tells l))))
+
+pub returns-clause-fewer : goal.returns-clause-fewer
+returns-clause-fewer c =
+    let n = sym c.in_ok-attribute.ensures.ok_part ∙ c.named.ensures in
+    let l = located_by c.in_ok-value.value.at c.with.result c.map_err.result c.map_err.ensures.cases (λ g e h. search rules) in
     let g = given_of c.args.given in
-    let k = c.args.kind in
+    let k = subject_kind c.args.given.subject in
+    let v = value_means c.in_ok-value.value.part in
     let a = c.in_ok-attribute.attribute in
-    let v = c.in_ok-v.v in
-    record {
-      reads =
-          λ s.
-          let w = c.in_ok-word.ensures s in
-          let m = c.in_ok-next_mark.ensures w.stands in
-          let h = c.in_ok-v.ensures m.stands in
-          record {
-            stands = h.stands;
-            answers =
-                ap (λ r. answer given_of r (row_from c.args.text.now c.next_value.new.at.place)) c.at.ensures
-                ∙ then _ w.answers (there _ _ _ n (then _ m.answers (then _ h.answers (ends given_of _ _ v.at _ c.with.ensures))));
-          };
-      fewer =
-          subst (λ r. IfOk r (λ f. spare (given_of f) < spare g)) (sym c.at.ensures)
-          (less _ v.at (with_value k g a (value_means v.value)) _ c.with.ensures (λ f. fewer k g f _ a (value_means v.value) n));
-    }
+    subst (λ r. IfOk r (λ f. spare (given_of f) < spare g)) (sym l)
+    (less c.with.result c.in_ok-value.value.at (with_value k g a v) _ c.with.ensures.tells (λ f. fewer k g f _ a v n))

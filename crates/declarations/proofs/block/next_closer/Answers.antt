@@ -1,43 +1,21 @@
-use Rattle.std.proofs.Common.{sym, ap, ◌∙◌}
-use Rattle.syntax.specs.Reading.{refused}
-use Rattle.grammar.specs.Declarations.{closer_of, closing}
+use Rattle.std.proofs.Common.{sym, refl, ◌∙◌}
 use Rattle.std.proofs.lemmas.Bool.{cond-true, cond-false}
-use Rattle.syntax.proofs.Steps.{exits, then, stop, lacks}
-use Rattle.syntax.proofs.Tokens.{takes, turns_down, breaks_off}
+use Rattle.syntax.proofs.Readings.{quits, goes}
+use Rattle.syntax.proofs.Tokens.{picked_itself}
+use Rattle.grammar.specs.Declarations.{closer_of, closing}
 use Rattle.declarations.proofs.block.next_closer.Goals as goal
 
-pub returns-in_err-t : goal.returns-in_err-t
+pub returns-in_err-next_as : goal.returns-in_err-next_as
 unfolding closing
-returns-in_err-t c s =
-    let h = c.in_err-t.ensures in
-    record { stands = h.stands s; answers = exits (λ b. b) _ _ c.from_residual.ensures.1 ∙ stop _ (breaks_off closer_of _ _ (h.row s)) }
+returns-in_err-next_as c = quits _ (picked_itself closer_of c.in_err-next_as.ensures (λ t o h. h.1)) c.from_residual.ensures.1
 
-pub returns-in_err-closed : goal.returns-in_err-closed
+pub returns-then-branch : goal.returns-then-branch
 unfolding closing
-returns-in_err-closed c s =
-    let h = c.in_ok-t.ensures in
-    let t = c.in_ok-t.t in
-    let o = c.in_err-closed.ensures in
-    record {
-      stands = h.stands s;
-      answers =
-          exits (λ b. b) _ _ c.from_residual-in_err-closed.ensures.1 ∙ ap refused (lacks _ o.value).1
-          ∙ stop _ (turns_down closer_of t.token t.at _ _ (h.row s) (sym o.ok_part ∙ c.closer_in.ensures t.at));
-    }
-
-pub returns-then-closed : goal.returns-then-closed
-unfolding closing
-returns-then-closed c s =
-    let h = c.in_ok-t.ensures in
-    let t = c.in_ok-t.t in
-    let o = sym c.in_ok-closed.ensures.ok_part ∙ c.closer_in.ensures t.at in
-    record { stands = h.stands s; answers = then _ (takes closer_of t.token t.at _ _ (h.row s) o) (sym (cond-true _ _ _ c.if-closed.true)) }
+returns-then-branch c =
+    goes _ (picked_itself closer_of c.in_ok-next_as.ensures (λ t o h. h.1)) (record { text = refl; answers = λ _. sym (cond-true _ _ _ c.if-branch.true) })
 
 pub returns : goal.returns
 unfolding closing
-returns c s =
-    let h = c.in_ok-t.ensures in
-    let t = c.in_ok-t.t in
-    let o = sym c.in_ok-closed.ensures.ok_part ∙ c.closer_in.ensures t.at in
-    let l = c.last_comma.ensures (h.stands s) in
-    record { stands = l.stands; answers = then _ (takes closer_of t.token t.at _ _ (h.row s) o) (l.answers ∙ sym (cond-false _ _ _ c.if-closed.false)) }
+returns c =
+    let l = c.last_comma.ensures in
+    goes _ (picked_itself closer_of c.in_ok-next_as.ensures (λ t o h. h.1)) (record { text = l.text; answers = λ s. l.answers s ∙ sym (cond-false _ _ _ c.if-branch.false) })

@@ -1,52 +1,52 @@
-use Rattle.std.proofs.Common.{sym, refl, ap, ◌∙◌}
+use Rattle.std.proofs.Common.{◌≡◌, ℕ, List, Result, sym, ap, ◌∙◌, subst}
 use Rattle.std.specs.Option.{option_map}
-use Rattle.lexer.specs.Rows.{row_from}
-use Rattle.syntax.specs.Reading.{read, refused}
-use Rattle.syntax.proofs.Steps.{exits, then, stop, there, missing, lacks}
-use Rattle.grammar.specs.Declarations.{made_of, declaration}
-use Rattle.declarations.specs.Meanings.{resource_of, subject_title, given_of, declared_of}
+use Rattle.lexer.specs.declared.reader.Reader.{Reader}
+use Rattle.syntax.specs.Faults.{TextFault}
+use Rattle.syntax.specs.declared.kind.Kind.{Kind}
+use Rattle.syntax.specs.Reading.{Reads}
+use Rattle.syntax.proofs.Readings.{quits, goes, has, lacking, done}
+use Rattle.grammar.specs.Documents.{Declared}
+use Rattle.grammar.specs.Declarations.{made_of, attributes, declaration}
+use Rattle.declarations.specs.Meanings.{resource_of, subject_kind, subject_title, given_of, declared_of}
+use Rattle.declarations.specs.declared.given.Given.{Given}
+use Rattle.declarations.specs.declared.resource.Subject.{Subject}
 use Rattle.declarations.proofs.Titles.{made_titled}
 use Rattle.declarations.proofs.declared.next_declaration.Goals as goal
 
+-- a block that was read for the subject, as one for its kind
+of_kind : {j k : Kind} {from to : Reader} {r : Result Given TextFault} → j ≡ k → Reads given_of (attributes j) from r to → Reads given_of (attributes k) from r to
+of_kind {from} {to} {r} e b = subst (λ j. Reads given_of (attributes j) from r to) e b
+
+-- what is made of the subject, as of its kind and title
+made : {k : Kind} {s u : Subject} (g : Given) → s ≡ u → subject_kind u ≡ k → made_of (subject_kind s) (subject_title s) (given_of g).ensure (given_of g).content ≡ made_of k (subject_title u) (given_of g).ensure (given_of g).content
+made {u} g e k =
+    ap (λ s. made_of (subject_kind s) (subject_title s) (given_of g).ensure (given_of g).content) e
+    ∙ ap (λ k. made_of k (subject_title u) (given_of g).ensure (given_of g).content) k
+
 pub returns-in_err-heading : goal.returns-in_err-heading
 unfolding declaration
-returns-in_err-heading c s =
-    let h = c.in_err-heading.ensures.reads s in
-    record { stands = h.stands; answers = exits declared_of _ _ c.from_residual.ensures.1 ∙ stop _ h.answers }
+returns-in_err-heading c = quits _ c.in_err-heading.ensures.reads c.from_residual.ensures.1
 
 pub returns-in_err-given : goal.returns-in_err-given
 unfolding declaration
-returns-in_err-given c s =
-    let t = c.in_ok-heading.ensures.reads s in
-    let h = c.in_err-given.ensures t.stands in
-    record { stands = h.stands; answers = exits declared_of _ _ c.from_residual-in_err-given.ensures.1 ∙ then _ t.answers (stop _ h.answers) }
+returns-in_err-given c =
+    goes _ c.in_ok-heading.ensures.reads (quits _ (of_kind c.in_ok-heading.ensures.kinded c.in_err-given.ensures.reads) c.from_residual-in_err-given.ensures.1)
 
 pub returns-in_err-resource : goal.returns-in_err-resource
 unfolding declaration
-returns-in_err-resource c s =
-    let t = c.in_ok-heading.ensures.reads s in
-    let g = c.in_ok-given.ensures t.stands in
-    let given = given_of c.in_ok-given.given in
-    let title = subject_title c.in_ok-heading.heading.subject in
+returns-in_err-resource c =
+    let k = c.in_ok-heading.ensures.kinded in
     let o = c.in_err-resource.ensures in
-    let d = sym (ap (option_map resource_of) o.ok_part) ∙ c.resource.ensures ∙ ap (λ k. made_of k title given.ensure given.content) c.in_ok-heading.ensures.kinded in
-    record {
-      stands = g.stands;
-      answers = exits declared_of _ _ c.from_residual-in_err-resource.ensures.1 ∙ then _ t.answers (then _ g.answers (ap refused (lacks _ o.value).1 ∙ missing _ _ _ d));
-    }
+    let d = sym (ap (option_map resource_of) o.ok_part) ∙ c.resource.ensures ∙ made c.in_ok-given.given c.in_ok-given.ensures.kept k in
+    goes _ c.in_ok-heading.ensures.reads (goes _ (of_kind k c.in_ok-given.ensures.reads) (lacking _ _ d o.value c.at.ensures c.from_residual-in_err-resource.ensures.1))
 
 pub returns : goal.returns
 unfolding declaration
-returns c s =
-    let t = c.in_ok-heading.ensures.reads s in
-    let g = c.in_ok-given.ensures t.stands in
-    let given = given_of c.in_ok-given.given in
-    let title = subject_title c.in_ok-heading.heading.subject in
+returns c =
+    let k = c.in_ok-heading.ensures.kinded in
+    let h = c.in_ok-heading.heading in
     let r = c.in_ok-resource.resource in
-    let q = row_from c.args.text.now c.attribute_block.new.at.place in
-    let d = sym (ap (option_map resource_of) c.in_ok-resource.ensures.ok_part) ∙ c.resource.ensures ∙ ap (λ k. made_of k title given.ensure given.content) c.in_ok-heading.ensures.kinded in
-    let titled = made_titled c.args.kind title given.ensure given.content (resource_of r) d in
-    record {
-      stands = g.stands;
-      answers = ap (λ b. read (record { resource = resource_of r; title = record { value = b; at = c.in_ok-heading.heading.at } }) q) titled ∙ then _ t.answers (then _ g.answers (there _ _ _ d refl));
-    }
+    let d = sym (ap (option_map resource_of) c.in_ok-resource.ensures.ok_part) ∙ c.resource.ensures ∙ made c.in_ok-given.given c.in_ok-given.ensures.kept k in
+    let titled = made_titled c.args.kind (subject_title h.part) _ _ (resource_of r) d in
+    let declared : List ℕ → Declared = λ t. record { resource = resource_of r; title = record { value = t; at = h.at } } in
+    goes _ c.in_ok-heading.ensures.reads (goes _ (of_kind k c.in_ok-given.ensures.reads) (has _ _ _ d (done declared_of _ (ap declared titled))))
