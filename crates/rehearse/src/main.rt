@@ -10,6 +10,7 @@ mod trees;
 
 use host::{Host, Limits, OpenFault};
 use linked_host::LinkedHost;
+use play::{End, Refusal};
 use std::{fs, io};
 use table_host::TableHost;
 
@@ -23,20 +24,16 @@ struct Three<B> {
     discarded: B,
 }
 
-fn tables(rt: &HostRuntime, limits: Limits) -> Result<Three<TableHost>, OpenFault> {
-    Ok(Three {
-        direct: TableHost::open(rt.alloc(), limits)?,
-        committed: TableHost::open(rt.alloc(), limits)?,
-        discarded: TableHost::open(rt.alloc(), limits)?,
-    })
-}
-
-fn linked(rt: &HostRuntime, limits: Limits) -> Result<Three<LinkedHost>, OpenFault> {
-    Ok(Three {
-        direct: LinkedHost::open(rt.alloc(), limits)?,
-        committed: LinkedHost::open(rt.alloc(), limits)?,
-        discarded: LinkedHost::open(rt.alloc(), limits)?,
-    })
+impl<B: Drop> Three<B> {
+    fn open<F: Fn() -> Result<B, OpenFault>>(make: F) -> Result<Three<B>, OpenFault>
+        requires { F.IsAlwaysCallable make }
+    {
+        Ok(Three {
+            direct: make()?,
+            committed: make()?,
+            discarded: make()?,
+        })
+    }
 }
 
 // Plays the lines in each of the three ways; the host that was played directly comes back.
@@ -55,9 +52,9 @@ fn ways<B: Host + Drop>(
     println!(rt; "{make}, directly")?;
     play::directly(rt, &mut direct, calls)?;
     println!(rt; "{make}, through a journal that is committed")?;
-    let committed = play::rehearsed(rt, committed, calls, true)?;
+    let committed = play::rehearsed(rt, committed, calls, End::Committed)?;
     println!(rt; "{make}, through a journal that is discarded")?;
-    let discarded = play::rehearsed(rt, discarded, calls, false)?;
+    let discarded = play::rehearsed(rt, discarded, calls, End::Discarded)?;
     let equal = trees::equal(&direct, &committed, calls);
     let untouched = (discarded.free(), discarded.allowance()) == opened;
     println!(rt; "{make}: committed tree equal {equal}, discarded host untouched {untouched}")?;
@@ -91,12 +88,12 @@ fn play_setup(rt: &HostRuntime) -> io::Result<()> {
         return println!(rt; "the script does not begin with: open CAPACITY ALLOWANCE");
     };
     println!(rt; "{first}")?;
-    let tables = match tables(rt, limits) {
+    let tables = match Three::open(|| TableHost::open(rt.alloc(), limits)) {
         Ok(hosts) => hosts,
-        Err(fault) => return println!(rt; "{}", play::opening(fault)),
+        Err(fault) => return println!(rt; "{}", Refusal::Open(fault)),
     };
-    match linked(rt, limits) {
+    match Three::open(|| LinkedHost::open(rt.alloc(), limits)) {
         Ok(hosts) => play_both(rt, tables, hosts, calls),
-        Err(fault) => println!(rt; "{}", play::opening(fault)),
+        Err(fault) => println!(rt; "{}", Refusal::Open(fault)),
     }
 }

@@ -1,5 +1,6 @@
 // The package index of the rig's folder, as it is read.
 use crate::trees::Shown;
+use faults::Numbered;
 use index::{Entry, Index, IndexError, Package};
 use std::{fs, io};
 
@@ -9,10 +10,8 @@ const INDEX: &str = "rig.idx";
 fn read_or_empty(rt: &HostRuntime, name: &str) -> io::Result<Vec<u8>> {
     match fs::read(rt, name) {
         Ok(bytes) => Ok(bytes),
-        Err(e) => match e.kind() {
-            io::ErrorKind::NotFound => Ok(Vec::new(rt.alloc())),
-            _ => Err(e),
-        },
+        Err(e) if e.kind() == io::ErrorKind::NotFound => Ok(Vec::new(rt.alloc())),
+        Err(e) => Err(e),
     }
 }
 
@@ -46,7 +45,7 @@ pub(crate) fn show_index(rt: &HostRuntime) -> io::Result<()> {
             }
             Ok(())
         }
-        Err(IndexError::Fault(f)) => println!(rt; "index {} at {}", f.ground.number(), f.place),
+        Err(IndexError::Fault(f)) => println!(rt; "index {} at {}", f.number(), f.at),
         Err(IndexError::Memory) => println!(rt; "no memory for the index"),
     }
 }

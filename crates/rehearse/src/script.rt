@@ -1,5 +1,6 @@
 // The lines of a script.
 use host::Limits;
+use std::str::FromStr;
 use values::{Content, Path, ValueFault};
 
 #[derive(Clone, Copy)]
@@ -38,23 +39,27 @@ pub(crate) fn parse_limits(line: &str) -> Option<Limits> {
     })
 }
 
-// The content of a file is all that stands behind its path.
-pub(crate) fn parse_call(line: &str) -> Result<Call, ScriptFault> {
-    let (word, rest) = line.split_once(' ').unwrap_or((line, ""));
-    match word {
-        "mkdir" => Ok(Call::Mkdir(Path::parse(rest.as_bytes())?)),
-        "creat" => {
-            let (path, content) = rest.split_once(' ').unwrap_or((rest, ""));
-            Ok(Call::Creat(
-                Path::parse(path.as_bytes())?,
-                Content::parse(content.as_bytes())?,
-            ))
+impl FromStr for Call {
+    type Err = ScriptFault;
+
+    // The content of a file is all that stands behind its path.
+    fn from_str(line: &str) -> Result<Call, ScriptFault> {
+        let (word, rest) = line.split_once(' ').unwrap_or((line, ""));
+        match word {
+            "mkdir" => Ok(Call::Mkdir(Path::try_from(rest.as_bytes())?)),
+            "creat" => {
+                let (path, content) = rest.split_once(' ').unwrap_or((rest, ""));
+                Ok(Call::Creat(
+                    Path::try_from(path.as_bytes())?,
+                    Content::try_from(content.as_bytes())?,
+                ))
+            }
+            "rm" => Ok(Call::Rm(Path::try_from(rest.as_bytes())?)),
+            "look" => Ok(Call::Look(Path::try_from(rest.as_bytes())?)),
+            "children" => Ok(Call::Children(Path::try_from(rest.as_bytes())?)),
+            "free" => Ok(Call::Free),
+            _ => Err(ScriptFault::Unknown),
         }
-        "rm" => Ok(Call::Rm(Path::parse(rest.as_bytes())?)),
-        "look" => Ok(Call::Look(Path::parse(rest.as_bytes())?)),
-        "children" => Ok(Call::Children(Path::parse(rest.as_bytes())?)),
-        "free" => Ok(Call::Free),
-        _ => Err(ScriptFault::Unknown),
     }
 }
 
@@ -62,11 +67,8 @@ impl Call {
     // The path that it names.
     pub(crate) fn path(self) -> Option<Path> {
         match self {
-            Call::Mkdir(p) => Some(p),
-            Call::Creat(p, _) => Some(p),
-            Call::Rm(p) => Some(p),
-            Call::Look(p) => Some(p),
-            Call::Children(p) => Some(p),
+            Call::Mkdir(p) | Call::Creat(p, _) | Call::Rm(p) | Call::Look(p) | Call::Children(p) =>
+                Some(p),
             Call::Free => None,
         }
     }

@@ -1,6 +1,5 @@
 // The trees at the end: by what stands at each path that the script named, since no other can stand on a host that was opened empty.
 use crate::play::Answer;
-use crate::script;
 use crate::script::Call;
 use host::{Host, Kind};
 use std::alloc::{AllocError, Global};
@@ -24,7 +23,7 @@ impl fmt::Display for Shown<'_> {
 fn named(heap: Global, calls: &str) -> Result<Vec<Path>, AllocError> {
     let mut paths = Vec::new(heap);
     for line in calls.lines() {
-        if let Ok(call) = script::parse_call(line) {
+        if let Ok(call) = line.parse::<Call>() {
             if let Some(p) = call.path() {
                 paths.push(p)?;
             }
@@ -59,12 +58,8 @@ fn same_at<B: Host, C: Host>(one: &B, other: &C, call: Call) -> bool {
 
 // Whether the two give each path the same that the lines make, and each content that they name.
 pub(crate) fn equal<B: Host, C: Host>(one: &B, other: &C, calls: &str) -> bool {
-    for line in calls.lines() {
-        if let Ok(call) = script::parse_call(line) {
-            if !same_at(one, other, call) {
-                return false;
-            }
-        }
-    }
-    true
+    calls
+        .lines()
+        .filter_map(|line| line.parse::<Call>().ok())
+        .all(|call| same_at(one, other, call))
 }
