@@ -21,10 +21,8 @@ use Rattle.index.specs.Packages.{pack_of, packs_of}
 use Rattle.index.specs.Packs.{Pack, names}
 use Rattle.index.specs.Reading.{with_entry, extended, grown, taken_in}
 use Rattle.index.proofs.Distinct.{distinct_push, outside_push, paths_push}
-use Rattle.index.proofs.Growth.{after_taken, grown_entry, begun_some}
-
-same_value : {X E : Type 0} (x y : X) → ◌≡◌ {A = Result X E} (Ok x) (Ok y) → x ≡ y
-same_value x y h = cc
+use Rattle.records.proofs.Says.{same_value, after_taken}
+use Rattle.index.proofs.Growth.{grown_entry, begun_some}
 
 -- entries, with one more if the push was taken
 module _ (v w : Vec Entry Global) (b : Bool) (x : Entry) (items : vec_items w ≡ cond b (vec_items v ++ x ∷ []) (vec_items v)) where

@@ -1,5 +1,5 @@
 -- Packages, one record on. Assumes nothing.
-use Rattle.std.proofs.Common.{◌≡◌, ℕ, ◌<◌, Bool, true, false, cond, not, eqb, leb, List, [], ◌∷◌, ◌++◌, length, Ok, Err, Result, refl, ap, ◌∙◌, arith}
+use Rattle.std.proofs.Common.{◌≡◌, ℕ, ◌<◌, Bool, true, false, cond, not, eqb, leb, List, [], ◌∷◌, ◌++◌, length, Ok, Err, refl, ap, ◌∙◌, arith}
 use Rattle.std.proofs.lemmas.Bool.{cond-false, lt-leb, leb-false, ne_eqb, eqb-false, not-true, not_from_false}
 use Rattle.fs.specs.Tree.{has}
 use Rattle.fs.specs.Manifest.{Entry}
@@ -22,11 +22,6 @@ module _ (most : ℕ) (x : List ℕ) (before : List (List ℕ)) where
       by true b p q e = absurd (not_both TooMany u e)
       by false true p q e = absurd (not_both Repeated u e)
       by false false p q e = (leb-false most (length before) p, q)
-
--- what goes on, goes on from a value
-pub after_taken : {X Y E : Type 0} (r : Result X E) (f : X → Result Y E) (y : Y) → after r f ≡ Ok y → (x : X) × (r ≡ Ok x) × (f x ≡ Ok y)
-after_taken (Ok x) f y h = (x, refl, h)
-after_taken (Err g) f y h = absurd (not_both g y h)
 
 -- a list that is not empty has a last one
 pub split_last : {X : Type 0} (xs : List X) → 0 < length xs → (front : List X) × (x : X) × (xs ≡ front ++ x ∷ [])

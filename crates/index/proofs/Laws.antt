@@ -23,10 +23,8 @@ use Rattle.index.specs.Packs.{Pack, names}
 use Rattle.index.specs.Reading.{admit, with_entry, extended, grown, taken_in, read_row, read_bytes}
 use Rattle.index.specs.Law.{pack_records, index_records, LegalPack, Legal, Written, ReadExactly}
 use Rattle.index.proofs.Distinct.{distinct_push, distinct_new, paths_cons, paths_append, paths_push, paths_length}
-use Rattle.index.proofs.Growth.{admitted, admit_one, after_taken, split_last, grown_entry, extended_ok, begun_is, begun_some}
-
-same_value : {X E : Type 0} (x y : X) → ◌≡◌ {A = Result X E} (Ok x) (Ok y) → x ≡ y
-same_value x y h = cc
+use Rattle.records.proofs.Says.{same_value, after_taken}
+use Rattle.index.proofs.Growth.{admitted, admit_one, split_last, grown_entry, extended_ok, begun_is, begun_some}
 
 -- the records of packages, with one more behind
 records_append : (ps qs : List Pack) → index_records (ps ++ qs) ≡ index_records ps ++ index_records qs

@@ -14,7 +14,7 @@ use Rattle.records.specs.Saying.{entry_record, record_of, Ruled, Allowed, SaidEx
 pub not_both : {X E : Type 0} (e : E) (x : X) → ◌≡◌ {A = Result X E} (Err e) (Ok x) → ⊥
 not_both e x h = let z : ◌≡◌ {A = ℕ} 0 1 = cc in omega arith
 
-same_value : {X E : Type 0} (x y : X) → ◌≡◌ {A = Result X E} (Ok x) (Ok y) → x ≡ y
+pub same_value : {X E : Type 0} (x y : X) → ◌≡◌ {A = Result X E} (Ok x) (Ok y) → x ≡ y
 same_value x y h = cc
 
 -- the checks, passed
@@ -30,7 +30,7 @@ path_takes : (p : List ℕ) → is_path p ≡ true → under_pkg p ≡ false →
 path_takes p h n = cond-true _ _ _ h ∙ cond-false _ _ _ n
 
 -- an answer that goes on
-after_taken : {X Y : Type 0} (r : Result X Ground) (f : X → Result Y Ground) (y : Y) → after r f ≡ Ok y → (x : X) × (r ≡ Ok x) × (f x ≡ Ok y)
+pub after_taken : {X Y E : Type 0} (r : Result X E) (f : X → Result Y E) (y : Y) → after r f ≡ Ok y → (x : X) × (r ≡ Ok x) × (f x ≡ Ok y)
 after_taken (Ok x) f y h = (x, refl, h)
 after_taken (Err g) f y h = absurd (not_both g y h)
 
