@@ -1,8 +1,9 @@
 -- What is read off a row of tokens, and how one reading goes on with another. Assumes nothing.
-use Rattle.std.specs.Prelude.{◌≡◌, ◌^◌, ◌<◌, length, Some, None, Ok, Err, Option, Result}
+use Rattle.std.specs.Prelude.{◌≡◌, Some, None, Ok, Err, Option, Result}
 use Rattle.lexer.specs.Lexing.{Lexeme}
 use Rattle.lexer.specs.Rows.{Row, token, ended, broken, row_from}
 use Rattle.lexer.specs.declared.position.Position.{Position}
+use Rattle.lexer.specs.Bytes.{Short as ShortText}
 use Rattle.lexer.specs.declared.reader.Reader.{Reader}
 use Rattle.syntax.specs.declared.fault.Ground.{Ground}
 use Rattle.syntax.specs.declared.fault.Ground.TheVariants.{Unexpected}
@@ -51,9 +52,9 @@ answer f (Err e) r = refused e
 abbrev pub ahead : Reader → Row
 ahead r = row_from r.text.now r.at.place
 
--- lines are counted rightly in a text of this length
+-- the reader's text is short enough for lines to be counted rightly
 abbrev pub Short : Reader → Type 0
-Short r = length r.text.now < 2 ^ 32
+Short r = ShortText r.text.now
 
 -- a reader that came from one place of a text to another answers, as f means it, what the grammar reads off the row there
 pub record Reads {A B : Type 0} (f : A → B) (grammar : Row → Read B) (from : Reader) (r : Result A TextFault) (to : Reader) : Type 0 where
