@@ -7,7 +7,7 @@ use Rattle.std.proofs.lemmas.List.Sums.{prefix_len_stops}
 use Rattle.std.specs.List.{between, prefix_len}
 use Rattle.lexer.specs.declared.position.Position.{Position}
 use Rattle.lexer.specs.Bytes.{letter, plain, position}
-use Rattle.lexer.specs.Lexing.{word, quoted, seen, Lexed, lexed, fault, fault_at, word_end, Quote, quote_end, quote_token, token, token_at, mark}
+use Rattle.lexer.specs.Lexing.{word, quoted, seen, Lexed, lexed, fault, fault_at, word_end, Quote, closed, wrong, unclosed, quote_end, quote_token, token, token_at, mark}
 
 pub word_counted : (p : ℕ) (bs : List ℕ) → word_end p bs ≡ p + prefix_len letter bs
 unfolding word_end
@@ -26,34 +26,46 @@ quote_counted p (b ∷ bs) =
     (λ t. cond-false _ _ _ (not_quote b t) ∙ cond-true _ _ _ t ∙ quote_counted (p + 1) bs ∙ (let e : p + 1 + prefix_len plain bs ≡ p + (1 + prefix_len plain bs) = omega arith in ap (λ k. quote_end k (drop (prefix_len plain bs) bs)) e) ∙ rw one-add)
     (λ f. rw add-zero)
 
+-- how a quoted text ends whose bytes at p are bs, the first n of them plain
+module _ (p : ℕ) (bs : List ℕ) (n : ℕ) (c : n ≡ prefix_len plain bs) where
+  goes : {q : Quote} → quote_end (p + n) (drop n bs) ≡ q → quote_end p bs ≡ q
+  goes e = quote_counted p bs ∙ ap (λ k. quote_end (p + k) (drop k bs)) (sym c) ∙ e
+
+  pub end_unclosed : length bs ≤ n → quote_end p bs ≡ unclosed
+  unfolding quote_end
+  end_unclosed h = goes (at_drop_all (quote_end (p + n)) bs n h)
+
+  pub end_closed : n < length bs → get_or bs n 0 ≡ 39 → quote_end p bs ≡ closed (p + n)
+  unfolding quote_end
+  end_closed h e = goes (at_drop_more (quote_end (p + n)) bs n 0 h ∙ cond-true _ _ _ (eq-eqb _ 39 e))
+
+  pub end_wrong : n < length bs → (get_or bs n 0 ≡ 39 → ⊥) → quote_end p bs ≡ wrong (p + n)
+  unfolding quote_end
+  end_wrong h e =
+      let stops = prefix_len_stops plain bs 0 (omega arith) in
+      goes
+      (at_drop_more (quote_end (p + n)) bs n 0 h
+      ∙ cond-false _ _ _ (ne_eqb _ 39 e) ∙ cond-false _ _ _ (ap (λ k. plain (get_or bs k 0)) c ∙ stops))
+
 -- what stands at a position
 module _ (text : List ℕ) (at : Position) (s : at ≡ position text at.place) where
   -- a quote, and past it the bytes bs, the first n of them plain
   module _ (bs : List ℕ) (n : ℕ) (c : n ≡ prefix_len plain bs) where
-    answers : {l : Lexed} {q : Quote} → quote_end (at.place + 1 + n) (drop n bs) ≡ q → l ≡ quote_token text at.place q → l ≡ quote_token text at.place (quote_end (at.place + 1) bs)
-    answers e a =
-        a ∙ ap (quote_token text at.place) (sym (quote_counted (at.place + 1) bs ∙ ap (λ k. quote_end (at.place + 1 + k) (drop k bs)) (sym c) ∙ e))
-
     pub unclosed_answer : length bs ≤ n → fault (fault_at at) ≡ quote_token text at.place (quote_end (at.place + 1) bs)
-    unfolding quote_end
-    unclosed_answer h = answers (at_drop_all (quote_end (at.place + 1 + n)) bs n h) (ap (λ a. fault (fault_at a)) s)
+    unclosed_answer h = ap (λ a. fault (fault_at a)) s ∙ ap (quote_token text at.place) (sym (end_unclosed (at.place + 1) bs n c h))
 
     pub closed_answer : n < length bs → get_or bs n 0 ≡ 39 → bs ≡ drop (at.place + 1) text → lexed (seen (quoted (take n bs)) at) (at.place + (n + 2)) ≡ quote_token text at.place (quote_end (at.place + 1) bs)
-    unfolding quote_end
     closed_answer h e b =
         let past : at.place + (n + 2) ≡ at.place + 1 + n + 1 = omega arith in
         let m : n ≡ at.place + 1 + n - (at.place + 1) = omega arith in
-        answers (at_drop_more (quote_end (at.place + 1 + n)) bs n 0 h ∙ cond-true _ _ _ (eq-eqb _ 39 e)) (λ j. lexed (seen (quoted (take (m j) (b j))) (s j)) (past j))
+        (λ j. lexed (seen (quoted (take (m j) (b j))) (s j)) (past j))
+        ∙ ap (quote_token text at.place) (sym (end_closed (at.place + 1) bs n c h e))
 
     pub wrong_answer : n < length bs → (get_or bs n 0 ≡ 39 → ⊥) → (here : Position) → here.place ≡ at.place + (n + 1) → here ≡ position text here.place → fault (fault_at here) ≡ quote_token text at.place (quote_end (at.place + 1) bs)
-    unfolding quote_end
     wrong_answer h e here m r =
         let there : here.place ≡ at.place + 1 + n = omega arith in
-        let stops = prefix_len_stops plain bs 0 (omega arith) in
-        answers
-        (at_drop_more (quote_end (at.place + 1 + n)) bs n 0 h
-        ∙ cond-false _ _ _ (ne_eqb _ 39 e) ∙ cond-false _ _ _ (ap (λ k. plain (get_or bs k 0)) c ∙ stops))
-        (ap (λ a. fault (fault_at a)) (r ∙ ap (position text) there))
+        ap (λ a. fault (fault_at a)) (r ∙ ap (position text) there)
+        ∙ ap (quote_token text at.place) (sym (end_wrong (at.place + 1) bs n c h e))
 
   -- the bytes bs, the first n of them letters
   pub word_answer : (bs : List ℕ) (n : ℕ) → bs ≡ drop at.place text → n ≡ prefix_len letter bs → 0 < length bs → letter (get_or bs 0 0) ≡ true → lexed (seen (word (take n bs)) at) (at.place + n) ≡ token_at text at.place

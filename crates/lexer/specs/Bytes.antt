@@ -12,6 +12,10 @@ letter b = (nat_le 97 b && nat_le b 122) || (nat_le 65 b && nat_le b 90)
 abbrev pub plain : ℕ → Bool
 plain b = nat_le 32 b && nat_le b 126 && not (b == 39) && not (b == 92)
 
+-- does not end a line
+abbrev pub in_line : ℕ → Bool
+in_line b = not (b == 10)
+
 -- how many lines end in these bytes
 unfoldable pub line_ends : List ℕ → ℕ
 line_ends [] = 0

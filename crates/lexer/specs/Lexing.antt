@@ -1,5 +1,5 @@
 -- The tokens of a text. A place counts bytes from the start of the text.
-use Rattle.std.specs.Prelude.{ℕ, ◌+◌, Bool, true, false, cond, ◌||◌, List, [], ◌∷◌, drop, Ok, Err, Result, ◌==◌}
+use Rattle.std.specs.Prelude.{ℕ, ◌+◌, Bool, true, false, cond, ◌||◌, List, [], ◌∷◌, length, drop, Ok, Err, Result, ◌==◌}
 use Rattle.std.specs.List.{between}
 use Rattle.lexer.specs.declared.fault.LexFault.{LexFault}
 use Rattle.lexer.specs.declared.position.Position.{Position}
@@ -89,12 +89,31 @@ module _ (text : List ℕ) (p : ℕ) where
       (cond (b == 126) (arrow (seen notifies (position text p)) bs)
       (cond (b == 39) (quote_token (quote_end (p + 1) bs)) no_token))))))))))
 
+  -- where reading stops in a quoted text: at its wrong byte, at the end of the text, or past its closing quote
+  abbrev pub quote_stop : Quote → ℕ
+  quote_stop (closed e) = e + 1
+  quote_stop (wrong e) = e
+  quote_stop unclosed = length text
+
+  -- where reading stops if no token is at p, where the bytes bs stand: past the first byte of half an arrow, within a quoted text, else at p
+  abbrev pub stop : List ℕ → ℕ
+  stop [] = p
+  stop (b ∷ bs) = cond (b == 61 || b == 45 || b == 126) (p + 1) (cond (b == 39) (quote_stop (quote_end (p + 1) bs)) p)
+
 abbrev pub token_at : List ℕ → ℕ → Lexed
 token_at text p = token text p (drop p text)
 
 -- the first token at or after p
 abbrev pub next_token : List ℕ → ℕ → Lexed
 next_token text p = token_at text (skipped false p (drop p text))
+
+-- where reading stops if it is refused, with the first byte at p
+abbrev pub stop_at : List ℕ → ℕ → ℕ
+stop_at text p = stop text p (drop p text)
+
+-- and with blanks and comments at p
+abbrev pub next_stop : List ℕ → ℕ → ℕ
+next_stop text p = stop_at text (skipped false p (drop p text))
 
 -- what a token of the code says, at its position
 abbrev pub sight : Token → Position → Seen
@@ -111,10 +130,10 @@ sight Before at = seen before at
 sight Notifies at = seen notifies at
 sight End at = end at
 
--- what the code answers of a token at a position: the token and its length, or the fault
-abbrev pub token_answer : Position → Result (Token × ℕ) LexFault → Lexed
-token_answer at (Ok t) = lexed (sight t.0 at) (at.place + t.1)
-token_answer at (Err f) = fault f
+-- what the code answers of a token at a position, past which reading went on by n bytes
+abbrev pub token_answer : Position → Result Token LexFault → ℕ → Lexed
+token_answer at (Ok t) n = lexed (sight t at) (at.place + n)
+token_answer at (Err f) n = fault f
 
 abbrev pub scanned : Result (Placed Token) LexFault → Position → Lexed
 scanned (Ok t) after = lexed (sight t.part t.at) after.place

@@ -1,12 +1,13 @@
-ghost use Rattle.std.specs.Prelude.{◌≡◌, ◌+◌, ◌<◌, ◌≤◌, length, drop, IfOk, MatchOption};
+ghost use Rattle.std.specs.Prelude.{◌≡◌, ◌<◌, ◌≤◌, length, MatchOption};
 ghost use Rattle.lexer.specs.Bytes.{Stands, Short, position, start as first};
-ghost use Rattle.lexer.specs.Lexing.{next_token, token_at, token_answer, quote_token, quote_end, scanned};
+ghost use Rattle.lexer.specs.Lexing.{next_token, scanned};
 ghost use Rattle.lexer.specs.Rows.{placed_sight, answer, next, row_from};
 
+use crate::cursor::Cursor;
 use crate::fault::LexFault;
 use crate::placed::Placed;
 use crate::position::Position;
-use crate::scan::{blanks, letters, line_ends, plain};
+use crate::scan::line_ends;
 use crate::token::Token;
 
 // A text with the position that reading has come to, which is a place of the text or its end.
@@ -38,78 +39,19 @@ impl<'a> Reader<'a> {
         if place > text.len() {
             return None;
         }
-        let mut reader = Reader::new(text);
-        reader.at = reader.past(place);
-        Some(reader)
+        let before = &text[..place];
+        let start = Cursor {
+            text,
+            at: Position::start(),
+        };
+        let at = start.past(before.len(), line_ends(before));
+        Some(Reader { text, at })
     }
 
     pub fn position(&self) -> Position
         ensures { result ≡ self.now.at }
     {
         self.at
-    }
-
-    // The bytes from here on.
-    fn rest(&self) -> &'a [u8]
-        ensures { result.now ≡ drop self.now.at.place self.now.text.now }
-    {
-        &self.text[self.at.place..]
-    }
-
-    // The position n bytes on. The line saturates, so that no text is unsafe.
-    fn past(&self, n: usize) -> Position
-        requires { self.now.at.place + n ≤ length self.now.text.now }
-        ensures place { result.place ≡ self.now.at.place + n }
-        ensures stands { Short self.now.text.now → Stands self.now.text.now result }
-    {
-        Position {
-            place: self.at.place + n,
-            line: self.at.line.saturating_add(line_ends(&self.rest()[..n])),
-        }
-    }
-
-    // The text that is quoted here, whose bytes past the opening quote are `inner`, and its length with both quotes.
-    fn quoted(&self, inner: &'a [u8]) -> Result<(Token<'a>, usize), LexFault>
-        requires { inner.now ≡ drop (self.now.at.place + 1) self.now.text.now }
-        ensures within { IfOk result (λ t. self.now.at.place + t.1 ≤ length self.now.text.now) }
-        ensures answer { Short self.now.text.now → token_answer self.now.at result ≡ quote_token self.now.text.now self.now.at.place (quote_end (self.now.at.place + 1) inner.now) }
-    {
-        let n = plain(inner);
-        match inner.get(n) {
-            Some(b) if *b as char == '\'' => Ok((Token::Quoted(&inner[..n]), n + 2)),
-            Some(_) => Err(LexFault {
-                at: self.past(n + 1),
-            }),
-            None => Err(LexFault { at: self.at }),
-        }
-    }
-
-    // The token whose first byte is here, and its length; the end of the text is one.
-    fn token(&self) -> Result<(Token<'a>, usize), LexFault>
-        ensures within { IfOk result (λ t. self.now.at.place + t.1 ≤ length self.now.text.now) }
-        ensures answer { Short self.now.text.now → token_answer self.now.at result ≡ token_at self.now.text.now self.now.at.place }
-    {
-        let rest = self.rest();
-        let Some((first, inner)) = rest.split_first() else {
-            return Ok((Token::End, 0));
-        };
-        match *first as char {
-            'a'..='z' | 'A'..='Z' => {
-                let n = letters(rest);
-                Ok((Token::Word(&rest[..n]), n))
-            }
-            '{' => Ok((Token::OpenBrace, 1)),
-            '}' => Ok((Token::CloseBrace, 1)),
-            '[' => Ok((Token::OpenBracket, 1)),
-            ']' => Ok((Token::CloseBracket, 1)),
-            ':' => Ok((Token::Colon, 1)),
-            ',' => Ok((Token::Comma, 1)),
-            '=' if inner.starts_with(b">") => Ok((Token::Gives, 2)),
-            '-' if inner.starts_with(b">") => Ok((Token::Before, 2)),
-            '~' if inner.starts_with(b">") => Ok((Token::Notifies, 2)),
-            '\'' => self.quoted(inner),
-            _ => Err(LexFault { at: self.at }),
-        }
     }
 
     // The next token, or its fault: `token` says which stands next and where reading goes on, `row` says the same of the row of
@@ -119,10 +61,12 @@ impl<'a> Reader<'a> {
         ensures token { Short self.old.text.now → scanned result self.new.at ≡ next_token self.old.text.now self.old.at.place }
         ensures row { Short self.old.text.now → answer placed_sight result (row_from self.old.text.now self.new.at.place) ≡ next (row_from self.old.text.now self.old.at.place) }
     {
-        self.at = self.past(blanks(self.rest()));
-        let at = self.at;
-        let (part, len) = self.token()?;
-        self.at = self.past(len);
-        Ok(Placed { part, at })
+        let mut cursor = Cursor {
+            text: self.text,
+            at: self.at,
+        };
+        let token = cursor.next_token();
+        self.at = cursor.at;
+        token
     }
 }

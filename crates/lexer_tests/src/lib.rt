@@ -141,6 +141,67 @@ mod tests {
         Ok(())
     }
 
+    // Where reading stands after a refusal, and what it goes on with: the next token, or the same refusal where no token begins.
+    #[test]
+    fn refused_positions_read_on(rt: HostRuntime) {
+        let cases = [
+            // Past the first byte of half an arrow.
+            ("\n -a", 3, 2, Ok(Token::Word(b"a"))),
+            ("==>", 1, 1, Ok(Token::Gives)),
+            ("~", 1, 1, Ok(Token::End)),
+            // At the wrong byte of a quoted text.
+            ("\n'a\nb'", 3, 2, Ok(Token::Word(b"b"))),
+            ("'\\'", 1, 1, Err(1)),
+            // At the end, where a quoted text has none.
+            ("# c\n 'abc", 9, 2, Ok(Token::End)),
+            // At the byte where no token begins.
+            (" \n 1 a", 3, 2, Err(3)),
+        ];
+        for (text, place, line, then) in cases {
+            let mut at = Position::start();
+            assert!(rt; at.next_token(text.as_bytes()).is_err(), "{}", text);
+            assert_eq!(rt; at, Position { place, line }, "{}", text);
+            let read = at.next_token(text.as_bytes());
+            assert_eq!(rt;
+                read.map(|t| t.part).map_err(|f| f.at.place),
+                then,
+                "{}",
+                text
+            );
+        }
+    }
+
+    // A long text is read in the time of its bytes, from one position on.
+    #[test]
+    fn long_texts(rt: HostRuntime) -> Result<(), Fail> {
+        let mut text = Vec::new(rt.alloc());
+        for _ in 0..20_000 {
+            text.push(b'{')?;
+            text.push(b'\n')?;
+        }
+        let mut at = Position::start();
+        for n in 0..20_000 {
+            let t = at.next_token(&text)?;
+            assert_eq!(rt; t.part, Token::OpenBrace);
+            assert_eq!(rt;
+                t.at,
+                Position {
+                    place: 2 * n,
+                    line: n + 1
+                }
+            );
+        }
+        assert_eq!(rt; at.next_token(&text)?.part, Token::End);
+        assert_eq!(rt;
+            at,
+            Position {
+                place: 40_000,
+                line: 20_001
+            }
+        );
+        Ok(())
+    }
+
     #[test]
     fn readers_at_a_place(rt: HostRuntime) {
         let text = b"a\n\nb";
