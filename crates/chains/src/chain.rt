@@ -10,7 +10,7 @@ ghost use Rattle.chains.specs.Meanings.{ref_of, link_of};
 
 use crate::reference::{Ref, next_bracketed, next_reference};
 use faults::Numbered;
-use lexer::{Placed, Position, Reader, Token};
+use lexer::{Placed, Position, Token, Tokens};
 use syntax::part::next_as;
 use syntax::{Arrow, Ground, Kind, TextError, TextFault};
 
@@ -35,22 +35,22 @@ fn arrow_in(token: Token<'_>) -> Option<Arrow>
 }
 
 // Whether an arrow is the next token.
-fn sees_arrow(mut reader: Reader<'_>) -> Result<bool, TextFault>
-    ensures { Reads (λ b. b) arrow_follows reader.entry result reader.entry }
+fn sees_arrow<'a, R: Tokens<'a>>(mut reader: R) -> Result<bool, TextFault>
+    ensures { Reads (λ b. b) arrow_follows (R.spot reader) result (R.spot reader) }
 {
     let t = reader.next_token()?;
     Ok(arrow_in(t.part).is_some())
 }
 
-fn next_arrow(reader: &mut Reader<'_>) -> Result<Placed<Arrow>, TextFault>
-    ensures { Reads (placed_as (λ a. a)) (taken arrow_of) reader.old result reader.new }
+fn next_arrow<'a, R: Tokens<'a>>(reader: &mut R) -> Result<Placed<Arrow>, TextFault>
+    ensures { Reads (placed_as (λ a. a)) (taken arrow_of) (R.spot reader.old) result (R.spot reader.new) }
 {
     next_as(reader, arrow_in)
 }
 
 // An arrow and a reference, behind the reference `left`.
-fn next_link<'a>(reader: &mut Reader<'a>, left: Ref<'a>) -> Result<Link<'a>, TextFault>
-    ensures { Reads link_of (link_at (ref_of left.entry)) reader.old result reader.new }
+fn next_link<'a, R: Tokens<'a>>(reader: &mut R, left: Ref<'a>) -> Result<Link<'a>, TextFault>
+    ensures { Reads link_of (link_at (ref_of left.entry)) (R.spot reader.old) result (R.spot reader.new) }
 {
     let arrow = next_arrow(reader)?;
     let right = next_reference(reader)?;
@@ -59,14 +59,14 @@ fn next_link<'a>(reader: &mut Reader<'a>, left: Ref<'a>) -> Result<Link<'a>, Tex
 
 // What stands behind the word of the first reference's kind, which stands at `first`; the links come behind those that are there.
 // A refusal keeps those that were there, and may leave some of this chain behind them.
-pub fn next_chain<'a>(
-    reader: &mut Reader<'a>,
+pub fn next_chain<'a, R: Tokens<'a>>(
+    reader: &mut R,
     kind: Kind,
     first: Position,
     links: &mut Vec<Link<'a>>,
 ) -> Result<(), TextError>
     ensures kept { take (length links.old.items) links.new.items ≡ links.old.items }
-    ensures reads { Tries (λ _. map link_of links.new.items) (chain_at kind first (map link_of links.old.items)) reader.old result reader.new }
+    ensures reads { Tries (λ _. map link_of links.new.items) (chain_at kind first (map link_of links.old.items)) (R.spot reader.old) result (R.spot reader.new) }
 {
     let mut left = next_bracketed(reader, kind, first)?;
     loop {

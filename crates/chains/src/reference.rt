@@ -4,7 +4,7 @@ ghost use Rattle.grammar.specs.Chains.{bracketed as bracketed_at, reference as r
 ghost use Rattle.chains.specs.Meanings.{ref_of};
 
 use faults::Numbered;
-use lexer::{Position, Reader};
+use lexer::{Position, Tokens};
 use syntax::part::{next_mark, next_quoted, next_word};
 use syntax::{Ground, Kind, Mark, TextFault};
 
@@ -18,12 +18,12 @@ pub struct Ref<'a> {
 }
 
 // ['TITLE'], behind the word of its kind, which stands at `first`.
-pub(crate) fn next_bracketed<'a>(
-    reader: &mut Reader<'a>,
+pub(crate) fn next_bracketed<'a, R: Tokens<'a>>(
+    reader: &mut R,
     kind: Kind,
     first: Position,
 ) -> Result<Ref<'a>, TextFault>
-    ensures { Reads ref_of (bracketed_at kind first) reader.old result reader.new }
+    ensures { Reads ref_of (bracketed_at kind first) (R.spot reader.old) result (R.spot reader.new) }
 {
     next_mark(reader, Mark::OpenBracket)?;
     let title = next_quoted(reader)?;
@@ -35,8 +35,8 @@ pub(crate) fn next_bracketed<'a>(
     })
 }
 
-pub(crate) fn next_reference<'a>(reader: &mut Reader<'a>) -> Result<Ref<'a>, TextFault>
-    ensures { Reads ref_of reference_at reader.old result reader.new }
+pub(crate) fn next_reference<'a, R: Tokens<'a>>(reader: &mut R) -> Result<Ref<'a>, TextFault>
+    ensures { Reads ref_of reference_at (R.spot reader.old) result (R.spot reader.new) }
 {
     let word = next_word(reader)?;
     let kind = Kind::referred(word.part).ok_or(Ground::Unexpected.at(word.at))?;

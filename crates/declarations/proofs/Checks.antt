@@ -2,13 +2,13 @@
 use Rattle.std.proofs.Common.{◌≡◌, ℕ, Bool, true, false, cond, List, IsErrAnd, MatchResult, Ok, Err, Result, sym, refl, ap, ◌∙◌, arith}
 use Rattle.values.specs.declared.fault.ValueFault.TheVariants.{Malformed}
 use Rattle.lexer.specs.Rows.{Row}
+use Rattle.lexer.specs.Spots.{Spot, ahead}
 use Rattle.lexer.specs.declared.position.Position.{Position}
-use Rattle.lexer.specs.declared.reader.Reader.{Reader}
 use Rattle.syntax.specs.declared.fault.Ground.{Ground}
 use Rattle.syntax.specs.declared.fault.Ground.TheVariants.{Value}
 use Rattle.syntax.specs.declared.kind.Kind.{Kind}
 use Rattle.syntax.specs.Faults.{TextFault, fault_at}
-use Rattle.syntax.specs.Reading.{Read, read, refused, checked, answer, ahead, Reads}
+use Rattle.syntax.specs.Reading.{Read, read, refused, checked, answer, Reads}
 use Rattle.syntax.proofs.Steps.{exits, holds, breaks}
 use Rattle.grammar.specs.Declarations.{title_ok, title_check}
 use Rattle.declarations.specs.Meanings.{Tells}
@@ -35,16 +35,16 @@ module _ {A B : Type 0} (f : A → B) (a : Result B Ground) (p : Position) where
 
   module _ (t : Result A Ground) (told : Tells f a t) where
     -- on past a value that is told
-    pub passes : {C D : Type 0} {h : C → D} (k : B → Row → Read D) {from to : Reader} {r : Result C TextFault} {x : A} → Ok x ≡ located p t → Reads h (k (f x)) from r to → Reads h (λ row. checked a p (λ y. k y row)) from r to
-    passes k {from} e b = record { text = b.text; answers = λ n. holds p (λ y. k y (ahead from)) (sym (value_told t told e)) (b.answers n) }
+    pub passes : {C D : Type 0} {h : C → D} (k : B → Row → Read D) {from to : Spot} {r : Result C TextFault} {x : A} → Ok x ≡ located p t → Reads h (k (f x)) from r to → Reads h (λ row. checked a p (λ y. k y row)) from r to
+    passes k {from} e b = record { text = b.text; stands = b.stands; answers = λ n. holds p (λ y. k y (ahead from)) (sym (value_told t told e)) (b.answers n) }
 
     -- out with a refusal that is told
-    pub fails : {C D : Type 0} {h : C → D} (k : B → Row → Read D) {from : Reader} {r : Result C TextFault} {e : TextFault} → Err e ≡ located p t → IsErrAnd r (λ y. y ≡ e) → Reads h (λ row. checked a p (λ y. k y row)) from r from
-    fails {h} k {from} e x = record { text = refl; answers = λ _. exits h _ _ x ∙ refusal_told (λ y. k y (ahead from)) t told e }
+    pub fails : {C D : Type 0} {h : C → D} (k : B → Row → Read D) {from : Spot} {r : Result C TextFault} {e : TextFault} → Err e ≡ located p t → IsErrAnd r (λ y. y ≡ e) → Reads h (λ row. checked a p (λ y. k y row)) from r from
+    fails {h} k {from} e x = record { text = refl; stands = λ n. n; answers = λ _. exits h _ _ x ∙ refusal_told (λ y. k y (ahead from)) t told e }
 
 -- a reading that ends in what is told
-pub ends : {A B : Type 0} (f : A → B) (a : Result B Ground) (p : Position) (t : Result A Ground) {s : Result A TextFault} (at : Reader) → Tells f a t → s ≡ located p t → Reads f (λ row. checked a p (λ y. read y row)) at s at
-ends f a p t {s} at told e = record { text = refl; answers = λ _. by t s told e }
+pub ends : {A B : Type 0} (f : A → B) (a : Result B Ground) (p : Position) (t : Result A Ground) {s : Result A TextFault} (at : Spot) → Tells f a t → s ≡ located p t → Reads f (λ row. checked a p (λ y. read y row)) at s at
+ends f a p t {s} at told e = record { text = refl; stands = λ n. n; answers = λ _. by t s told e }
   where
     by : (t : Result _ Ground) (s : Result _ TextFault) → Tells f a t → s ≡ located p t → answer f s (ahead at) ≡ checked a p (λ y. read y (ahead at))
     by (Ok x) s told e = ap (λ s. answer f s (ahead at)) e ∙ holds p (λ y. read y (ahead at)) (sym told) refl

@@ -11,13 +11,13 @@ ghost use Rattle.declarations.specs.Meanings.{subject_kind, given_of, spare};
 use crate::given::Given;
 use crate::resource::Subject;
 use faults::Numbered;
-use lexer::{Reader, Token};
+use lexer::{Token, Tokens};
 use syntax::part::{next_as, next_mark, next_value, next_word};
 use syntax::{Ground, Mark, TextFault};
 
 // NAME => VALUE; an attribute less is then left to be given, so that a block ends.
-fn next_attribute(reader: &mut Reader<'_>, given: Given) -> Result<Given, TextFault>
-    ensures reads { Reads given_of (attribute_at (subject_kind given.subject) (given_of given)) reader.old result reader.new }
+fn next_attribute<'a, R: Tokens<'a>>(reader: &mut R, given: Given) -> Result<Given, TextFault>
+    ensures reads { Reads given_of (attribute_at (subject_kind given.subject) (given_of given)) (R.spot reader.old) result (R.spot reader.new) }
     ensures kept { IfOk result (λ g. g.subject ≡ given.subject) }
     ensures fewer { IfOk result (λ g. spare (given_of g) < spare (given_of given)) }
 {
@@ -42,8 +42,8 @@ fn closer_in(token: Token<'_>) -> Option<bool>
 }
 
 // Past the brace behind a comma, if it stands there; whether it does.
-fn last_comma(reader: &mut Reader<'_>) -> Result<bool, TextFault>
-    ensures { Reads (λ b. b) last_comma_at reader.old result reader.new }
+fn last_comma<'a, R: Tokens<'a>>(reader: &mut R) -> Result<bool, TextFault>
+    ensures { Reads (λ b. b) last_comma_at (R.spot reader.old) result (R.spot reader.new) }
 {
     let mut ahead = *reader;
     let t = ahead.next_token()?;
@@ -55,8 +55,8 @@ fn last_comma(reader: &mut Reader<'_>) -> Result<bool, TextFault>
 }
 
 // Past `,` or `}` or both; whether the brace was closed.
-fn next_closer(reader: &mut Reader<'_>) -> Result<bool, TextFault>
-    ensures { Reads (λ b. b) closing reader.old result reader.new }
+fn next_closer<'a, R: Tokens<'a>>(reader: &mut R) -> Result<bool, TextFault>
+    ensures { Reads (λ b. b) closing (R.spot reader.old) result (R.spot reader.new) }
 {
     if next_as(reader, closer_in)?.part {
         return Ok(true);
@@ -65,8 +65,11 @@ fn next_closer(reader: &mut Reader<'_>) -> Result<bool, TextFault>
 }
 
 // Past the closing brace; what the block gives the subject.
-pub(crate) fn attribute_block(reader: &mut Reader<'_>, subject: Subject) -> Result<Given, TextFault>
-    ensures reads { Reads given_of (attributes (subject_kind subject)) reader.old result reader.new }
+pub(crate) fn attribute_block<'a, R: Tokens<'a>>(
+    reader: &mut R,
+    subject: Subject,
+) -> Result<Given, TextFault>
+    ensures reads { Reads given_of (attributes (subject_kind subject)) (R.spot reader.old) result (R.spot reader.new) }
     ensures kept { IfOk result (λ g. g.subject ≡ subject) }
 {
     let mut given = Given {

@@ -8,7 +8,7 @@ ghost use Rattle.declarations.specs.Meanings.{subject_kind, subject_title, decla
 use crate::block::attribute_block;
 use crate::resource::{Resource, Subject};
 use faults::Numbered;
-use lexer::{Placed, Reader};
+use lexer::{Placed, Tokens};
 use syntax::part::{next_mark, next_quoted};
 use syntax::{Ground, Kind, Mark, TextFault};
 
@@ -16,8 +16,8 @@ use syntax::{Ground, Kind, Mark, TextFault};
 pub type Declared = Placed<Resource>;
 
 // { 'TITLE':
-fn next_heading(reader: &mut Reader<'_>, kind: Kind) -> Result<Placed<Subject>, TextFault>
-    ensures reads { Reads (placed_as subject_title) (heading_at kind) reader.old result reader.new }
+fn next_heading<'a, R: Tokens<'a>>(reader: &mut R, kind: Kind) -> Result<Placed<Subject>, TextFault>
+    ensures reads { Reads (placed_as subject_title) (heading_at kind) (R.spot reader.old) result (R.spot reader.new) }
     ensures kinded { IfOk result (λ h. subject_kind h.part ≡ kind) }
 {
     next_mark(reader, Mark::OpenBrace)?;
@@ -31,8 +31,11 @@ fn next_heading(reader: &mut Reader<'_>, kind: Kind) -> Result<Placed<Subject>, 
 }
 
 // What stands past the word of the kind, up to the closing brace.
-pub fn next_declaration(reader: &mut Reader<'_>, kind: Kind) -> Result<Declared, TextFault>
-    ensures { Reads declared_of (declaration kind) reader.old result reader.new }
+pub fn next_declaration<'a, R: Tokens<'a>>(
+    reader: &mut R,
+    kind: Kind,
+) -> Result<Declared, TextFault>
+    ensures { Reads declared_of (declaration kind) (R.spot reader.old) result (R.spot reader.new) }
 {
     let heading = next_heading(reader, kind)?;
     let given = attribute_block(reader, heading.part)?;

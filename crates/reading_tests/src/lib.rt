@@ -1,4 +1,4 @@
-// One declaration and one chain, read off a text: what each refusal's number and place is, and that reading succeeds where memory is left.
+// One declaration and one chain, read off a text, by a reader or at any position: what each refusal's number and place is, and that reading succeeds where memory is left.
 #![tactic(auto)]
 
 #[cfg(test)]
@@ -8,7 +8,7 @@ mod tests {
     use declarations::Resource;
     use declarations::declared::next_declaration;
     use faults::Numbered;
-    use lexer::{Position, Reader};
+    use lexer::{Cursor, Position, Reader, Tokens};
     use std::test::Fail;
     use syntax::{Arrow, Kind, TextError};
 
@@ -22,12 +22,16 @@ mod tests {
     }
 
     // The sign of the resource that a file's declaration asks for, or the number of its refusal, with the place of its title or of the refused part.
-    fn file(text: &str) -> (char, u8, usize) {
-        let mut reader = Reader::new(text.as_bytes());
-        match next_declaration(&mut reader, Kind::File) {
+    fn declared<'a, R: Tokens<'a>>(reader: &mut R) -> (char, u8, usize) {
+        match next_declaration(reader, Kind::File) {
             Ok(d) => (sign(d.part), 0, d.at.place),
             Err(f) => ('!', f.number(), f.at.place),
         }
+    }
+
+    fn file(text: &str) -> (char, u8, usize) {
+        let mut reader = Reader::new(text.as_bytes());
+        declared(&mut reader)
     }
 
     fn sign(resource: Resource) -> char {
@@ -124,5 +128,66 @@ mod tests {
             assert_eq!(rt; links.len(), 64);
         }
         Ok(())
+    }
+
+    // Four lines, with a declaration and a chain in the midst of them.
+    fn four_lines() -> &'static [u8] {
+        b"file\n{ '/a':\n  ensure => directory }\nFile['/a'] ~> Service['b'] }"
+    }
+
+    // From a position behind the word of its kind, and again from the same one.
+    #[test]
+    fn declared_in_the_midst(rt: HostRuntime) {
+        let kept = Cursor {
+            text: four_lines(),
+            at: Position { place: 4, line: 1 },
+        };
+        for _ in 0..2 {
+            let mut cursor = kept;
+            let read = next_declaration(&mut cursor, Kind::File);
+            assert!(rt;
+                read.is_ok_and(|d| sign(d.part) == 'd' && d.at == Position { place: 7, line: 2 })
+            );
+            assert!(rt; cursor.at == Position { place: 36, line: 3 });
+        }
+    }
+
+    #[test]
+    fn chained_in_the_midst(rt: HostRuntime) {
+        let first = Position { place: 37, line: 4 };
+        let mut cursor = Cursor {
+            text: four_lines(),
+            at: Position { place: 41, line: 4 },
+        };
+        let mut links = Vec::new(rt.alloc());
+        assert!(rt; refusal(next_chain(&mut cursor, Kind::File, first, &mut links)) == (0, 0));
+        assert!(rt; cursor.at == Position { place: 63, line: 4 });
+        assert_eq!(rt; links.len(), 1);
+        let link = links[0];
+        assert!(rt; link.left.at == first && link.left.title == b"/a".as_slice());
+        assert!(rt;
+            link.arrow.part == Arrow::Notifies && link.arrow.at == Position { place: 48, line: 4 }
+        );
+        assert!(rt;
+            link.right.kind == Kind::Service && link.right.at == Position { place: 51, line: 4 }
+        );
+    }
+
+    // At the end of a text, and past it, nothing stands: refused there.
+    #[test]
+    fn past_the_end(rt: HostRuntime) {
+        let text = four_lines();
+        for place in [65, 66, 1000, usize::MAX] {
+            let at = Position { place, line: 4 };
+            let mut cursor = Cursor { text, at };
+            assert!(rt; declared(&mut cursor) == ('!', 13, place), "{}", place);
+            let mut links = Vec::new(rt.alloc());
+            assert!(rt;
+                refusal(next_chain(&mut cursor, Kind::File, at, &mut links)) == (13, place),
+                "{}",
+                place
+            );
+            assert!(rt; cursor.at == at && links.is_empty());
+        }
     }
 }

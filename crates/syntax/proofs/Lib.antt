@@ -1,5 +1,6 @@
 pub mod Steps
 pub mod Readings
+pub mod Readers
 pub mod Tokens
 pub mod Turns
 pub mod Progress

@@ -65,3 +65,8 @@ module _ {A B : Type 0} (x : A → B) (q : Row) (m : Read B) where
   wants (Ok y) h = absurd h
   wants (Err (Fault g)) h = let z : ◌≡◌ {A = ℕ} 0 1 = cc in absurd (omega arith)
   wants (Err Memory) h = tt
+
+  -- what a callee of this kind was told, and how its fault stops the reading
+  pub passes : {C D : Type 0} (y : C → D) (p : Row) (n : Read D) (r : Result A TextError) (e : TextError) → IsErrAnd r (λ y. y ≡ e) → Told (Err e) y p n → ((f : TextFault) → refused f ≡ n → refused f ≡ m) → Told r x q m
+  passes y p n r (Fault f) h t k = fails r h (k f t)
+  passes y p n r Memory h t k = wants r h

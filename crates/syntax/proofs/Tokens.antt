@@ -3,17 +3,17 @@ use Rattle.std.proofs.Common.{◌≡◌, ℕ, Some, None, Ok, Err, Option, Resul
 use Rattle.std.specs.Option.{option_map}
 use Rattle.lexer.specs.Lexing.{Lexeme, Seen, seen, end, sight}
 use Rattle.lexer.specs.Rows.{Row, token, ended, broken, parsed, failed, next, placed_sight, answer as lexer_answer}
+use Rattle.lexer.specs.Spots.{Spot, ahead}
 use Rattle.lexer.specs.declared.fault.LexFault.{LexFault}
 use Rattle.lexer.specs.declared.placed.Placed.{Placed}
 use Rattle.lexer.specs.declared.position.Position.{Position}
-use Rattle.lexer.specs.declared.reader.Reader.{Reader}
 use Rattle.lexer.specs.declared.token.Token.{Token}
 use Rattle.lexer.specs.declared.token.Token.TheVariants.{Word, Quoted, OpenBrace, CloseBrace, OpenBracket, CloseBracket, Colon, Comma, Gives, Before, Notifies, End}
 use Rattle.syntax.specs.declared.fault.Ground.TheVariants.{Unexpected}
 use Rattle.syntax.specs.Faults.{TextFault, fault_at, no_token}
 use Rattle.syntax.specs.Parts.{placed_as}
 use Rattle.syntax.specs.Picking.{or_unexpected, Picked, Picks}
-use Rattle.syntax.specs.Reading.{Read, read, refused, refuse, or_refuse, Located, taken, answer, ahead, Reads}
+use Rattle.syntax.specs.Reading.{Read, read, refused, refuse, or_refuse, Located, taken, answer, Reads}
 use Rattle.syntax.specs.Tokens.{of_seen, seen_at}
 
 pub sight_at : (t : Token) (p : Position) → seen_at (sight t p) ≡ p
@@ -48,21 +48,21 @@ module _ {A : Type 0} (f : Lexeme → Option A) where
 
   -- a token of the code, at its position
   module _ (t : Token) (at : Position) (q row : Row) (e : parsed (sight t at) q ≡ next row) where
-    takes : {x : A} → Some x ≡ of_seen f (sight t at) → read (record { value = x; at = at }) q ≡ taken f row
+    pub takes : {x : A} → Some x ≡ of_seen f (sight t at) → read (record { value = x; at = at }) q ≡ taken f row
     unfolding or_refuse
     takes {x} o =
         ap (λ p. read (record { value = x; at = p }) q) (sym (sight_at t at))
         ∙ ap (λ o. or_refuse o Unexpected (seen_at (sight t at)) (λ y. read (record { value = y; at = seen_at (sight t at) }) q)) o
         ∙ sym (taken_seen (sight t at) q row e)
 
-    turns_down : None ≡ of_seen f (sight t at) → refused (fault_at at Unexpected) ≡ taken f row
+    pub turns_down : None ≡ of_seen f (sight t at) → refused (fault_at at Unexpected) ≡ taken f row
     unfolding or_refuse
     turns_down o =
         ap (λ p. refuse Unexpected p) (sym (sight_at t at))
         ∙ ap (λ o. or_refuse o Unexpected (seen_at (sight t at)) (λ y. read (record { value = y; at = seen_at (sight t at) }) q)) o
         ∙ sym (taken_seen (sight t at) q row e)
 
-  breaks_off : (b : LexFault) (row : Row) → failed b ≡ next row → refused (no_token b) ≡ taken f row
+  pub breaks_off : (b : LexFault) (row : Row) → failed b ≡ next row → refused (no_token b) ≡ taken f row
   unfolding next taken
   breaks_off b (token m p r) e = let z : ◌≡◌ {A = ℕ} 0 1 = cc in absurd (omega arith)
   breaks_off b (ended p) e = let z : ◌≡◌ {A = ℕ} 0 1 = cc in absurd (omega arith)
@@ -81,11 +81,11 @@ module _ {T A : Type 0} (means : T → A) (f : Lexeme → Option A) {picks : Tok
   answer_read h (Ok t) r q row e a = token_read h t a.0 r q row e a.1 a.2
   answer_read h (Err b) r q row e a = ap (λ r. answer (placed_as means) r q) a ∙ breaks_off f b row e
 
-  pub picked : {from to : Reader} {r : Result (Placed T) TextFault} → Picks picks from r to → Agrees means f picks → Reads (placed_as means) (taken f) from r to
-  picked {from} {to} {r} p h = record { text = p.text; answers = λ s. answer_read h p.lexed r (ahead to) (ahead from) (p.stood s) p.answers }
+  pub picked : {from to : Spot} {r : Result (Placed T) TextFault} → Picks picks from r to → Agrees means f picks → Reads (placed_as means) (taken f) from r to
+  picked {from} {to} {r} p h = record { text = p.text; stands = p.stands; answers = λ s. answer_read h p.lexed r (ahead to) (ahead from) (p.stood s) p.answers }
 
 -- the same where a part is what the grammar takes
-pub picked_itself : {A : Type 0} (f : Lexeme → Option A) {picks : Token → Option A → Type 0} {from to : Reader} {r : Result (Placed A) TextFault} → Picks picks from r to → ((t : Token) (o : Option A) → picks t o → (p : Position) → o ≡ of_seen f (sight t p)) → Reads (placed_as (λ x. x)) (taken f) from r to
+pub picked_itself : {A : Type 0} (f : Lexeme → Option A) {picks : Token → Option A → Type 0} {from to : Spot} {r : Result (Placed A) TextFault} → Picks picks from r to → ((t : Token) (o : Option A) → picks t o → (p : Position) → o ≡ of_seen f (sight t p)) → Reads (placed_as (λ x. x)) (taken f) from r to
 picked_itself f p h = picked (λ x. x) f p (λ t o k at. itself o ∙ h t o k at)
   where
     itself : {A : Type 0} (o : Option A) → option_map (λ x. x) o ≡ o

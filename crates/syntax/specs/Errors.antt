@@ -4,9 +4,9 @@ use Rattle.faults.specs.Faults.{error_number}
 use Rattle.faults.specs.declared.error.ReadError.{ReadError}
 use Rattle.faults.specs.declared.error.ReadError.TheVariants.{Fault, Memory}
 use Rattle.lexer.specs.Rows.{Row}
-use Rattle.lexer.specs.declared.reader.Reader.{Reader}
+use Rattle.lexer.specs.Spots.{Spot, Standing, ahead}
 use Rattle.syntax.specs.Faults.{TextFault, ground_number}
-use Rattle.syntax.specs.Reading.{Read, read, refused, ahead, Short}
+use Rattle.syntax.specs.Reading.{Read, read, refused}
 
 -- why no manifest is read
 abbrev pub TextError : Type 0
@@ -23,6 +23,7 @@ Told (Err (Fault e)) f q m = refused e ≡ m
 Told (Err Memory) f q m = Unit {0}
 
 -- as Reads, for a reading that may want memory
-pub record Tries {A B : Type 0} (f : A → B) (grammar : Row → Read B) (from : Reader) (r : Result A TextError) (to : Reader) : Type 0 where
-  pub text : to.text.now ≡ from.text.now
-  pub told : Short from → Told r f (ahead to) (grammar (ahead from))
+pub record Tries {A B : Type 0} (f : A → B) (grammar : Row → Read B) (from : Spot) (r : Result A TextError) (to : Spot) : Type 0 where
+  pub text : to.text ≡ from.text
+  pub stands : Standing from → Standing to
+  pub told : Standing from → Told r f (ahead to) (grammar (ahead from))

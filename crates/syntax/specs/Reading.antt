@@ -1,10 +1,9 @@
 -- What is read off a row of tokens, and how one reading goes on with another. Assumes nothing.
 use Rattle.std.specs.Prelude.{◌≡◌, Some, None, Ok, Err, Option, Result}
 use Rattle.lexer.specs.Lexing.{Lexeme}
-use Rattle.lexer.specs.Rows.{Row, token, ended, broken, row_from}
+use Rattle.lexer.specs.Rows.{Row, token, ended, broken}
+use Rattle.lexer.specs.Spots.{Spot, Standing, ahead}
 use Rattle.lexer.specs.declared.position.Position.{Position}
-use Rattle.lexer.specs.Bytes.{Short as ShortText}
-use Rattle.lexer.specs.declared.reader.Reader.{Reader}
 use Rattle.syntax.specs.declared.fault.Ground.{Ground}
 use Rattle.syntax.specs.declared.fault.Ground.TheVariants.{Unexpected}
 use Rattle.syntax.specs.Faults.{TextFault, fault_at, no_token}
@@ -48,15 +47,8 @@ abbrev pub answer : {A B : Type 0} → (A → B) → Result A TextFault → Row 
 answer f (Ok x) r = read (f x) r
 answer f (Err e) r = refused e
 
--- the row of tokens from the reader's place on
-abbrev pub ahead : Reader → Row
-ahead r = row_from r.text.now r.at.place
-
--- the reader's text is short enough for lines to be counted rightly
-abbrev pub Short : Reader → Type 0
-Short r = ShortText r.text.now
-
--- a reader that came from one place of a text to another answers, as f means it, what the grammar reads off the row there
-pub record Reads {A B : Type 0} (f : A → B) (grammar : Row → Read B) (from : Reader) (r : Result A TextFault) (to : Reader) : Type 0 where
-  pub text : to.text.now ≡ from.text.now
-  pub answers : Short from → answer f r (ahead to) ≡ grammar (ahead from)
+-- what came from one place of a text to another answers, as f means it, what the grammar reads off the row there, and stands in the text again
+pub record Reads {A B : Type 0} (f : A → B) (grammar : Row → Read B) (from : Spot) (r : Result A TextFault) (to : Spot) : Type 0 where
+  pub text : to.text ≡ from.text
+  pub stands : Standing from → Standing to
+  pub answers : Standing from → answer f r (ahead to) ≡ grammar (ahead from)

@@ -1,4 +1,5 @@
 // Single tokens, as the grammar wants them. Each part has the position of its token's first byte, a quoted text's opening quote.
+// What is read from, `reader`, may be a text with any position: one that does not stand in the text is safe, and nothing is said of it.
 ghost use Rattle.std.specs.Prelude.{◌≡◌};
 ghost use Rattle.std.specs.Option.{option_map};
 ghost use Rattle.lexer.specs.Lexing.{sight};
@@ -11,7 +12,7 @@ ghost use Rattle.syntax.specs.Tokens.{word_of, quoted_of, value_of, mark_of, the
 use crate::fault::{Ground, TextFault};
 use crate::mark::Mark;
 use faults::Numbered;
-use lexer::{Placed, Position, Reader, Token};
+use lexer::{Placed, Position, Token, Tokens};
 
 // What an attribute is given.
 #[derive(Clone, Copy)]
@@ -69,12 +70,12 @@ fn this_mark(wanted: Mark, token: Token<'_>) -> Option<()>
 }
 
 // The next token as what `pick` makes of it; where that is nothing, the grammar allows no such token here.
-pub fn next_as<'a, T, F: Fn(Token<'a>) -> Option<T>>(
-    reader: &mut Reader<'a>,
+pub fn next_as<'a, R: Tokens<'a>, T, F: Fn(Token<'a>) -> Option<T>>(
+    reader: &mut R,
     pick: F,
 ) -> Result<Placed<T>, TextFault>
     requires { F.IsAlwaysCallable pick }
-    ensures { Picks (F.post pick) reader.old result reader.new }
+    ensures { Picks (F.post pick) (R.spot reader.old) result (R.spot reader.new) }
 {
     let t = reader.next_token()?;
     let part = pick(t.part).ok_or(Ground::Unexpected.at(t.at))?;
@@ -82,29 +83,29 @@ pub fn next_as<'a, T, F: Fn(Token<'a>) -> Option<T>>(
 }
 
 // The next token, which is to be a word.
-pub fn next_word<'a>(reader: &mut Reader<'a>) -> Result<Placed<&'a [u8]>, TextFault>
-    ensures { Reads (placed_as bytes) (taken word_of) reader.old result reader.new }
+pub fn next_word<'a, R: Tokens<'a>>(reader: &mut R) -> Result<Placed<&'a [u8]>, TextFault>
+    ensures { Reads (placed_as bytes) (taken word_of) (R.spot reader.old) result (R.spot reader.new) }
 {
     next_as(reader, word_in)
 }
 
 // The next token, which is to be a quoted text.
-pub fn next_quoted<'a>(reader: &mut Reader<'a>) -> Result<Placed<&'a [u8]>, TextFault>
-    ensures { Reads (placed_as bytes) (taken quoted_of) reader.old result reader.new }
+pub fn next_quoted<'a, R: Tokens<'a>>(reader: &mut R) -> Result<Placed<&'a [u8]>, TextFault>
+    ensures { Reads (placed_as bytes) (taken quoted_of) (R.spot reader.old) result (R.spot reader.new) }
 {
     next_as(reader, quoted_in)
 }
 
 // The next token, which is to be a word or a quoted text.
-pub fn next_value<'a>(reader: &mut Reader<'a>) -> Result<Placed<Value<'a>>, TextFault>
-    ensures { Reads (placed_as value_means) (taken value_of) reader.old result reader.new }
+pub fn next_value<'a, R: Tokens<'a>>(reader: &mut R) -> Result<Placed<Value<'a>>, TextFault>
+    ensures { Reads (placed_as value_means) (taken value_of) (R.spot reader.old) result (R.spot reader.new) }
 {
     next_as(reader, value_in)
 }
 
 // The next token, which is to be this mark; its position.
-pub fn next_mark(reader: &mut Reader<'_>, wanted: Mark) -> Result<Position, TextFault>
-    ensures { Reads placed_mark (taken (the_mark wanted)) reader.old result reader.new }
+pub fn next_mark<'a, R: Tokens<'a>>(reader: &mut R, wanted: Mark) -> Result<Position, TextFault>
+    ensures { Reads placed_mark (taken (the_mark wanted)) (R.spot reader.old) result (R.spot reader.new) }
 {
     Ok(next_as(reader, |token| this_mark(wanted, token))?.at)
 }

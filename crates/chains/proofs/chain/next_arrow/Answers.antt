@@ -3,4 +3,4 @@ use Rattle.grammar.specs.Chains.{arrow_of}
 use Rattle.chains.proofs.chain.next_arrow.Goals as goal
 
 pub returns : goal.returns
-returns c = picked_itself arrow_of c.next_as.ensures (λ t o h. h.1)
+returns g c = picked_itself arrow_of c.next_as.ensures (λ t o h. h.1)

@@ -17,35 +17,35 @@ less (Err e) p a n t k = tt
 
 pub returns-in_err-word-clause-reads : goal.returns-in_err-word-clause-reads
 unfolding attribute
-returns-in_err-word-clause-reads c = quits _ c.in_err-word.ensures c.from_residual.ensures.1
+returns-in_err-word-clause-reads g c = quits _ c.in_err-word.ensures c.from_residual.ensures.1
 
 pub returns-in_err-attribute-clause-reads : goal.returns-in_err-attribute-clause-reads
 unfolding attribute
-returns-in_err-attribute-clause-reads c =
+returns-in_err-attribute-clause-reads g c =
     let o = c.in_err-attribute.ensures in
     goes _ c.in_ok-word.ensures (lacking _ _ (sym o.ok_part ∙ c.named.ensures) o.value c.at.ensures c.from_residual-in_err-attribute.ensures.1)
 
 pub returns-in_err-next_mark-clause-reads : goal.returns-in_err-next_mark-clause-reads
 unfolding attribute
-returns-in_err-next_mark-clause-reads c =
+returns-in_err-next_mark-clause-reads g c =
     let n = sym c.in_ok-attribute.ensures.ok_part ∙ c.named.ensures in
     goes _ c.in_ok-word.ensures (has _ _ _ n (quits _ c.in_err-next_mark.ensures c.from_residual-in_err-next_mark.ensures.1))
 
 pub returns-in_err-value-clause-reads : goal.returns-in_err-value-clause-reads
 unfolding attribute
-returns-in_err-value-clause-reads c =
+returns-in_err-value-clause-reads g c =
     let n = sym c.in_ok-attribute.ensures.ok_part ∙ c.named.ensures in
     goes _ c.in_ok-word.ensures (has _ _ _ n (goes _ c.in_ok-next_mark.ensures (quits _ c.in_err-value.ensures c.from_residual-in_err-value.ensures.1)))
 
 pub returns-clause-reads : goal.returns-clause-reads
 unfolding attribute
-returns-clause-reads c =
+returns-clause-reads g c =
     let n = sym c.in_ok-attribute.ensures.ok_part ∙ c.named.ensures in
     let l = located_by c.in_ok-value.value.at c.with.result c.map_err.result c.map_err.ensures.cases (λ g e h. search rules) in
     goes _ c.in_ok-word.ensures (has _ _ _ n (goes _ c.in_ok-next_mark.ensures (goes _ c.in_ok-value.ensures (ends given_of _ _ c.with.result _ c.with.ensures.tells l))))
 
 pub returns-clause-fewer : goal.returns-clause-fewer
-returns-clause-fewer c =
+returns-clause-fewer g c =
     let n = sym c.in_ok-attribute.ensures.ok_part ∙ c.named.ensures in
     let l = located_by c.in_ok-value.value.at c.with.result c.map_err.result c.map_err.ensures.cases (λ g e h. search rules) in
     let g = given_of c.args.given in

@@ -1,6 +1,6 @@
 use Rattle.std.proofs.Common.{◌≡◌, ℕ, List, Result, sym, ap, ◌∙◌, subst}
 use Rattle.std.specs.Option.{option_map}
-use Rattle.lexer.specs.declared.reader.Reader.{Reader}
+use Rattle.lexer.specs.Spots.{Spot}
 use Rattle.syntax.specs.Faults.{TextFault}
 use Rattle.syntax.specs.declared.kind.Kind.{Kind}
 use Rattle.syntax.specs.Reading.{Reads}
@@ -14,7 +14,7 @@ use Rattle.declarations.proofs.Titles.{made_titled}
 use Rattle.declarations.proofs.declared.next_declaration.Goals as goal
 
 -- a block that was read for the subject, as one for its kind
-of_kind : {j k : Kind} {from to : Reader} {r : Result Given TextFault} → j ≡ k → Reads given_of (attributes j) from r to → Reads given_of (attributes k) from r to
+of_kind : {j k : Kind} {from to : Spot} {r : Result Given TextFault} → j ≡ k → Reads given_of (attributes j) from r to → Reads given_of (attributes k) from r to
 of_kind {from} {to} {r} e b = subst (λ j. Reads given_of (attributes j) from r to) e b
 
 -- what is made of the subject, as of its kind and title
@@ -25,16 +25,16 @@ made {u} g e k =
 
 pub returns-in_err-heading : goal.returns-in_err-heading
 unfolding declaration
-returns-in_err-heading c = quits _ c.in_err-heading.ensures.reads c.from_residual.ensures.1
+returns-in_err-heading g c = quits _ c.in_err-heading.ensures.reads c.from_residual.ensures.1
 
 pub returns-in_err-given : goal.returns-in_err-given
 unfolding declaration
-returns-in_err-given c =
+returns-in_err-given g c =
     goes _ c.in_ok-heading.ensures.reads (quits _ (of_kind c.in_ok-heading.ensures.kinded c.in_err-given.ensures.reads) c.from_residual-in_err-given.ensures.1)
 
 pub returns-in_err-resource : goal.returns-in_err-resource
 unfolding declaration
-returns-in_err-resource c =
+returns-in_err-resource g c =
     let k = c.in_ok-heading.ensures.kinded in
     let o = c.in_err-resource.ensures in
     let d = sym (ap (option_map resource_of) o.ok_part) ∙ c.resource.ensures ∙ made c.in_ok-given.given c.in_ok-given.ensures.kept k in
@@ -42,7 +42,7 @@ returns-in_err-resource c =
 
 pub returns : goal.returns
 unfolding declaration
-returns c =
+returns g c =
     let k = c.in_ok-heading.ensures.kinded in
     let h = c.in_ok-heading.heading in
     let r = c.in_ok-resource.resource in

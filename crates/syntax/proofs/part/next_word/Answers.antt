@@ -4,4 +4,4 @@ use Rattle.syntax.proofs.Tokens.{picked}
 use Rattle.syntax.proofs.part.next_word.Goals as goal
 
 pub returns : goal.returns
-returns c = picked bytes word_of c.next_as.ensures (λ t o h. h.1)
+returns g c = picked bytes word_of c.next_as.ensures (λ t o h. h.1)
