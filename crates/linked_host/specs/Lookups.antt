@@ -70,7 +70,7 @@ all_live [] a = omega arith
 all_live (None ∷ rs) a = absurd (true≢false (sym (a 0 None (omega arith) (omega arith))))
 all_live (Some r ∷ rs) a = let rest = all_live rs (λ k d l m. a (suc k) d (omega arith) (omega arith)) in omega arith
 
-none_from : (o : Option Record) → is_some o ≡ false → o ≡ None
+pub none_from : (o : Option Record) → is_some o ≡ false → o ≡ None
 none_from None e = refl
 none_from (Some r) e = absurd (true≢false e)
 

@@ -31,7 +31,13 @@ impl Inspect for LinkedHost {
     }
 
     fn free(&self) -> u16 {
-        self.arena.slots.iter().filter(|s| s.is_none()).count() as u16
+        let mut n = 0;
+        for slot in &self.arena.slots {
+            if slot.is_none() {
+                n += 1;
+            }
+        }
+        n
     }
 
     fn allowance(&self) -> Allowance {
