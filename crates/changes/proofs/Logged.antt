@@ -30,10 +30,18 @@ module _ (f : Path → Bool) where
   deaths_push [] c = omega arith
   deaths_push (x ∷ l) c = let rest = deaths_push l c in omega (arith, deaths_more f x (l ++ c ∷ []), deaths_more f x l)
 
-front : (held : List value.Change) (n : ℕ) (c : value.Change) → n < length held → c ≡ get_or held n c → take (n + 1) (map change_of held) ≡ take n (map change_of held) ++ change_of c ∷ []
-front held n c within read =
-    take_more (map change_of held) n (change_of c) (simp length-map within)
-    ∙ ap (λ x. take n (map change_of held) ++ x ∷ []) (get_or-map change_of held n c (change_of c) within ∙ ap change_of (sym read))
+module _ (held : List value.Change) (n : ℕ) (c : value.Change) (within : n < length held) (read : c ≡ get_or held n c) where
+  pub read_change : (d : Change) → get_or (map change_of held) n d ≡ change_of c
+  read_change d = get_or-map change_of held n c d within ∙ ap change_of (sym read)
+
+  pub front : take (n + 1) (map change_of held) ≡ take n (map change_of held) ++ change_of c ∷ []
+  front = take_more (map change_of held) n (change_of c) (simp length-map within) ∙ ap (λ x. take n (map change_of held) ++ x ∷ []) (read_change (change_of c))
+
+  pub made_front : (t : Tree) → made (take (n + 1) (map change_of held)) t ≡ change (change_of c) (made (take n (map change_of held)) t)
+  made_front t = ap (λ l. made l t) front ∙ made_append (take n (map change_of held)) (change_of c ∷ []) t
+
+  pub at_front : (t : Tree) (q : Path) → at (made (take (n + 1) (map change_of held)) t) q ≡ cond (same q (altered (change_of c))) (leaves (change_of c)) (at (made (take n (map change_of held)) t) q)
+  at_front t q = ap (λ u. at u q) (made_front t) ∙ at_change (change_of c) (made (take n (map change_of held)) t) q
 
 abbrev pub one : Bool → ℕ
 one b = cond b 1 0

@@ -1,3 +1,4 @@
 pub mod Rows
 pub mod Splits
 pub mod Says
+pub mod Items

@@ -61,7 +61,7 @@ impl<B: Inspect> Inspect for Journal<B> {
         }
     }
 
-    #[tactic(auto, using(crate::specs::Stand::children_made, crate::specs::Stand::few_children))]
+    #[tactic(auto, using(crate::specs::Stand::children_held, crate::specs::Stand::few_children))]
     fn children(&self, p: &Path) -> u16 {
         let m = self.log.moves(Some(*p));
         self.below
@@ -70,7 +70,7 @@ impl<B: Inspect> Inspect for Journal<B> {
             .saturating_sub(m.gone)
     }
 
-    #[tactic(auto, using(crate::specs::Stand::nodes_made))]
+    #[tactic(auto, using(crate::specs::Stand::nodes_held))]
     fn free(&self) -> u16 {
         let m = self.log.moves(None);
         self.below
