@@ -8,3 +8,4 @@ pub mod Turns
 pub mod Grounds
 pub mod Stops
 pub mod Samples
+pub mod Numbers
